@@ -1,4 +1,5 @@
 pub mod AtOnce
+pub mod Choices
 pub mod Ones
 pub mod Paths
 pub mod Placed

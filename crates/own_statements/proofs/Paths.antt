@@ -21,12 +21,14 @@ use Rattle.positions.specs.Advance.{performed, gone_by, worked, advanced}
 use Rattle.layers.specs.Ends.{HasNoted}
 use Rattle.layers.proofs.Kept.{first_kept, take_all}
 use Rattle.own_statements.specs.declared.statements.Did.{Did}
-use Rattle.own_statements.specs.declared.statements.Did.TheVariants.{Nothing, Next, Passed, Moved, Gave}
+use Rattle.own_statements.specs.declared.statements.Did.TheVariants.{Nothing, Next, Moved, Gave}
+use Rattle.own_statements.specs.declared.statements.Chosen.{Chosen}
+use Rattle.own_statements.specs.declared.statements.Chosen.TheVariants as chosen
 use Rattle.own_statements.specs.declared.ran.Ran.{Ran}
 use Rattle.own_statements.specs.declared.ran.Ran.TheVariants.{On, Stopped}
 use Rattle.own_statements.specs.declared.ran.Ran.TheVariants as r
 use Rattle.own_statements.specs.Runs.{RunsTo, IsBlock}
-use Rattle.own_statements.specs.Paths.{IsPath, here, on, topped, ComesTo, OnPassed, PassesNone, Does}
+use Rattle.own_statements.specs.Paths.{IsPath, here, on, topped, ComesTo, Chooses, Does}
 
 -- readings that are forgotten again
 pub forget_noted : (ns : List Note) (l m : PlainLayer) → m ≡ noting ns l → record m { notes = take (length l.notes) m.notes } ≡ l
@@ -47,13 +49,6 @@ pub block_found : (codes : List Code) (a : PlainActivation) (block f depth : ℕ
 block_found codes a block f depth xs procedure around found index =
     found index ∙ ap (λ g. instruction_inside codes g depth (record { block = block; index = index })) procedure ∙ ap (λ d. instruction_inside codes a.procedure d (record { block = block; index = index })) around
 
-pub none_passed : (did : Did) (P : ℕ → Type 0) → PassesNone did → OnPassed did P
-none_passed Nothing P h = tt
-none_passed Next P h = tt
-none_passed (Passed block) P h = absurd cc
-none_passed Moved P h = tt
-none_passed (Gave v) P h = tt
-
 -- a block in which there is nothing ends where it begins, however many blocks are around it
 none_inside : (b : Bool) (o : Option Instruction) → o ≡ None → None ≡ (if b then o else None)
 none_inside true o none = sym none
@@ -72,9 +67,15 @@ module _ (setting : Setting) where
       → ((kit : Bool) (s : PlainStrand) → f kit (topped Running (at (Block p) a) l s) ≡ g kit (topped Running (at (Block p) a) l s)) → Does passes p f a l did b m → Does passes p g a l did b m
   does_as passes p f g a l Nothing b m e h = h
   does_as passes p f g a l Next b m e h = λ s may kit. h s may kit ∙ e kit s
-  does_as passes p f g a l (Passed block) b m e h = λ s may kit. h s may kit ∙ e kit s
   does_as passes p f g a l Moved b m e h = λ s may kit. h s may kit ∙ e kit s
   does_as passes p f g a l (Gave v) b m e h = λ s may kit. h s may kit ∙ e kit s
+
+  -- the same of a choice
+  pub chooses_as : (passes : Bool) (p : Position) (second : ℕ) (f g : Bool → PlainStrand → PlainStrand) (a : PlainActivation) (l : PlainLayer) (c : Chosen) (b : PlainActivation) (m : PlainLayer)
+      → ((kit : Bool) (s : PlainStrand) → f kit (topped Running (at (Block p) a) l s) ≡ g kit (topped Running (at (Block p) a) l s)) → Chooses passes p second f a l c b m → Chooses passes p second g a l c b m
+  chooses_as passes p second f g a l chosen.Nothing b m e h = h
+  chooses_as passes p second f g a l chosen.Passed b m e h = λ s may kit. h s may kit ∙ e kit s
+  chooses_as passes p second f g a l chosen.Inside b m e h = λ s may kit. h s may kit ∙ e kit s
 
   -- an instance goes behind its block, whatever it has left
   outside_at : (w : Work) (left children procedure : ℕ) (slots : List Slot) (outer : List Position) (v : Work) (spawned : Bool) (into : Option ℕ)
@@ -117,13 +118,16 @@ module _ (setting : Setting) where
         pub come_next : Does passes p meaning_there b m Next c n → ComesTo setting passes a l None (at (Block (next_of p)) c) n
         come_next h s may = on (topped Running (at (Block p) b) m s) (topped Running (at (Block (next_of p)) c) n s) (come s may) (λ kit. h s may kit ∙ is_step kit s)
 
-        pub come_passed : (block : ℕ) → instruction_at setting.codes c.procedure block 0 ≡ None → Does passes p meaning_there b m (Passed block) c n → ComesTo setting passes a l None (at (Block (next_of p)) c) n
+        pub come_passed : (block : ℕ) → instruction_at setting.codes c.procedure block 0 ≡ None → Chooses passes p block meaning_there b m chosen.Passed c n → ComesTo setting passes a l None (at (Block (next_of p)) c) n
         come_passed block none h s may =
             let x = topped Running (inside block p c) n s in
             let gone_in : IsPath setting (topped Running a l s) x = on (topped Running (at (Block p) b) m s) x (come s may) (λ kit. h s may kit ∙ is_step kit s) in
             let ends : None ≡ instruction_inside setting.codes c.procedure (length (next_of p ∷ c.outer)) (first_of block) =
             none_inside (nat_lt (length (next_of p ∷ c.outer)) (length (blocks_at setting.codes c.procedure))) (instruction_at setting.codes c.procedure block 0) none in
             on x (topped Running (at (Block (next_of p)) c) n s) gone_in (λ kit. ap (λ o. gone_by setting kit (first_of block) o x) ends)
+
+        pub come_inside : (block : ℕ) → Chooses passes p block meaning_there b m chosen.Inside c n → ComesTo setting passes a l None c n
+        come_inside block h s may = on (topped Running (at (Block p) b) m s) (topped Running c n s) (come s may) (λ kit. h s may kit ∙ is_step kit s)
 
         pub come_moved : Does passes p meaning_there b m Moved c n → ComesTo setting passes a l None c n
         come_moved h s may = on (topped Running (at (Block p) b) m s) (topped Running c n s) (come s may) (λ kit. h s may kit ∙ is_step kit s)

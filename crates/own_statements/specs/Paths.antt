@@ -12,7 +12,9 @@ use Rattle.positions.specs.Layers.{PlainLayer, updating}
 use Rattle.positions.specs.Strands.{PlainStrand, is_entry}
 use Rattle.positions.specs.Advance.{advanced}
 use Rattle.own_statements.specs.declared.statements.Did.{Did}
-use Rattle.own_statements.specs.declared.statements.Did.TheVariants.{Nothing, Next, Passed, Moved, Gave}
+use Rattle.own_statements.specs.declared.statements.Did.TheVariants.{Nothing, Next, Moved, Gave}
+use Rattle.own_statements.specs.declared.statements.Chosen.{Chosen}
+use Rattle.own_statements.specs.declared.statements.Chosen.TheVariants as chosen
 
 -- one small step, with a free kit as without one
 abbrev pub IsNext : Setting → PlainStrand → PlainStrand → Type 0
@@ -49,29 +51,32 @@ IsInBlock a b = (b.procedure ≡ a.procedure) × (b.outer ≡ a.outer)
 -- where the next statement of the block is next
 abbrev pub OnNext : Did → Type 0 → Type 0
 OnNext Next P = P
-OnNext (Passed block) P = P
 OnNext _ P = Unit {0}
 
--- where a block inside is passed by
-abbrev pub OnPassed : Did → (ℕ → Type 0) → Type 0
-OnPassed (Passed block) P = P block
-OnPassed _ P = Unit {0}
-
-abbrev pub PassesNone : Did → Type 0
-PassesNone did = OnPassed did (λ _. false ≡ true)
-
 -- what was done of the statement at a place, with that meaning: nothing, or all of it. What the instance has left isn't looked at: it stands at
--- that position, at the next one, or at the beginning of that block inside
+-- that position, or at the next one
 abbrev pub Does : Bool → Position → (Bool → PlainStrand → PlainStrand) → PlainActivation → PlainLayer → Did → PlainActivation → PlainLayer → Type 0
 Does passes p meaning a l Nothing b m = (b ≡ a) × (m ≡ l)
 Does passes p meaning a l Next b m = (s : PlainStrand) → MayPass passes s → (kit : Bool)
     → topped Running (at (Block (next_of p)) b) m s ≡ meaning kit (topped Running (at (Block p) a) l s)
-Does passes p meaning a l (Passed block) b m = (s : PlainStrand) → MayPass passes s → (kit : Bool)
-    → topped Running (inside block p b) m s ≡ meaning kit (topped Running (at (Block p) a) l s)
 Does passes p meaning a l Moved b m = (s : PlainStrand) → MayPass passes s → (kit : Bool)
     → topped Running b m s ≡ meaning kit (topped Running (at (Block p) a) l s)
 Does passes p meaning a l (Gave v) b m = (s : PlainStrand) → MayPass passes s → (kit : Bool)
     → topped (Returning v) (at (Block p) b) m s ≡ meaning kit (topped Running (at (Block p) a) l s)
+
+-- where the second block is passed by
+abbrev pub OnPassed : Chosen → Type 0 → Type 0
+OnPassed chosen.Passed P = P
+OnPassed _ P = Unit {0}
+
+-- what was done of a choice at a place, with that meaning: nothing; the instance is at the beginning of the second block, which is passed by;
+-- or it has gone inside
+abbrev pub Chooses : Bool → Position → ℕ → (Bool → PlainStrand → PlainStrand) → PlainActivation → PlainLayer → Chosen → PlainActivation → PlainLayer → Type 0
+Chooses passes p second meaning a l chosen.Nothing b m = (b ≡ a) × (m ≡ l)
+Chooses passes p second meaning a l chosen.Passed b m = (s : PlainStrand) → MayPass passes s → (kit : Bool)
+    → topped Running (inside second p b) m s ≡ meaning kit (topped Running (at (Block p) a) l s)
+Chooses passes p second meaning a l chosen.Inside b m = (s : PlainStrand) → MayPass passes s → (kit : Bool)
+    → topped Running b m s ≡ meaning kit (topped Running (at (Block p) a) l s)
 
 -- a reducer takes so many numbers
 abbrev pub TakesBy : ℕ → Option Kind → Type 0

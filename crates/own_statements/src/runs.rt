@@ -9,7 +9,7 @@ ghost use Rattle.own_statements.specs.Runs.{RunsTo, IsBlock, IsBody};
 
 use crate::combining::combine_some;
 use crate::ran::Ran;
-use crate::statements::{Did, Here, perform_alone};
+use crate::statements::{Chosen, Did, Here, choose, perform_alone};
 use activations::activation::{Activation, FIRST};
 use activations::code::instructions;
 use activations::setting::Setting;
@@ -160,9 +160,26 @@ fn run_block<'a, V: View>(
             index += 1;
             continue;
         }
+        if let Operation::If(condition, first, second) = &statement.operation {
+            let here = Here {
+                statement: statement.number,
+                position,
+                passes_syncs,
+            };
+            match choose(layer, setting, here, condition, *first, *second, top) {
+                Chosen::Passed => {
+                    index += 1;
+                    continue;
+                }
+                Chosen::Inside => return ran_to(setting, top),
+                Chosen::Nothing => {
+                    top.stand(position);
+                    return Ran::Stopped;
+                }
+            }
+        }
         match perform_alone(layer, setting, passes_syncs, position, statement, top) {
             Did::Next => index += 1,
-            Did::Passed(_) => index += 1,
             Did::Moved => return ran_to(setting, top),
             Did::Nothing => {
                 top.stand(position);

@@ -1,11 +1,11 @@
 //! The statements that an instance does by itself: they enter no other instance.
-ghost use Rattle.std.specs.Prelude.{◌≡◌, ◌+◌, ◌<◌, ◌^◌, None, true, if◌then◌else◌};
+ghost use Rattle.std.specs.Prelude.{◌≡◌, ◌+◌, ◌<◌, ◌^◌, None, true, false, if◌then◌else◌};
 ghost use Rattle.linked_program.specs.CodeView.{expression as plain, instruction_at};
 ghost use Rattle.evaluation.specs.Values.{value_at};
 ghost use Rattle.positions.specs.Strands.{is_entry};
 ghost use Rattle.positions.specs.Advance.{evaluated, binding, choosing, giving, moved_on, performed};
 ghost use Rattle.activations.specs.Given.{lent};
-ghost use Rattle.own_statements.specs.Paths.{Does, OnNext, OnPassed, PassesNone, IsInBlock};
+ghost use Rattle.own_statements.specs.Paths.{Chooses, Does, OnNext, OnPassed, IsInBlock};
 
 use crate::found::{given_at_once, value_at_once};
 use activations::activation::Activation;
@@ -19,15 +19,22 @@ use positions::work::Position;
 use view_pool::View;
 
 /// What was done of a statement or a stretch of them: nothing; all of it, and the next statement of the block is next; all of it,
-/// and so it is behind that block inside, in which there is nothing; all of it, and the instance goes on elsewhere; all of it, which
-/// gave that value back.
+/// and the instance goes on elsewhere; all of it, which gave that value back.
 #[derive(Clone, Copy)]
 pub enum Did {
     Nothing,
     Next,
-    Passed(usize),
     Moved,
     Gave(i64),
+}
+
+/// What was done of a choice between two blocks: nothing; the second one was passed by, in which there is nothing; or the instance has
+/// gone inside.
+#[derive(Clone, Copy)]
+pub enum Chosen {
+    Nothing,
+    Passed,
+    Inside,
 }
 
 /// Where an instance is: at that statement, which stands at that position, and whether it may pass a sync.
@@ -38,7 +45,7 @@ pub struct Here {
     pub passes_syncs: bool,
 }
 
-/// One statement that is no update of a reducer. Where the next one of the block is next, what the instance has left is not noted.
+/// One statement that is no update of a reducer and no choice. Where the next one of the block is next, what the instance has left is not noted.
 #[inline(always)]
 pub fn perform_alone<V: View>(
     layer: &mut Layer<V>,
@@ -52,7 +59,6 @@ pub fn perform_alone<V: View>(
     requires kinds { layer.old.kinds ≡ setting.program.now.kinds }
     ensures done { Does passes_syncs position (λ kit. performed
         (lent setting.entry) kit position instruction.now.number instruction.now.operation) top.old layer.old result top.new layer.new }
-    ensures empty { OnPassed result (λ block. instruction_at setting.entry.program.now.codes top.old.procedure block 0 ≡ None) }
     ensures same_block { OnNext result (IsInBlock top.old top.new) }
     ensures kinds { layer.new.kinds ≡ layer.old.kinds }
 {
@@ -63,9 +69,6 @@ pub fn perform_alone<V: View>(
     };
     match &instruction.operation {
         Operation::Bind(name, value) => { bind(layer, setting.tables, here, *name, value, top) }
-        Operation::If(condition, first, second) => {
-            choose(layer, setting, here, condition, *first, *second, top)
-        }
         Operation::Return(value) => { give(layer, setting.tables, here, value, top) }
         Operation::Sync => pass_sync(layer, passes_syncs, position, top),
         _ => Did::Nothing,
@@ -82,7 +85,6 @@ fn pass_sync<V: View>(
 ) -> Did
     requires room { position.index + 1 < 2 ^ 64 }
     ensures done { Does passes_syncs position (λ kit s. if is_entry s then s else moved_on position s) top.old layer.old result top.new layer.new }
-    ensures passes { PassesNone result }
     ensures same_block { OnNext result (IsInBlock top.old top.new) }
     ensures kinds { layer.new.kinds ≡ layer.old.kinds }
 {
@@ -108,7 +110,6 @@ fn bind<V: View>(
     requires room { here.position.index + 1 < 2 ^ 64 }
     ensures done { Does here.passes_syncs here.position (λ kit. evaluated here.statement (value_at tables.now.tables top.old.slots (plain expression.now))
         (binding here.position name)) top.old layer.old result top.new layer.new }
-    ensures passes { PassesNone result }
     ensures same_block { OnNext result (IsInBlock top.old top.new) }
     ensures kinds { layer.new.kinds ≡ layer.old.kinds }
 {
@@ -134,7 +135,6 @@ fn bind_evaluated<V: View>(
     requires room { here.position.index + 1 < 2 ^ 64 }
     ensures done { Does here.passes_syncs here.position (λ kit. evaluated here.statement (value_at tables.now.tables top.old.slots (plain expression.now))
         (binding here.position name)) top.old layer.old result top.new layer.new }
-    ensures passes { PassesNone result }
     ensures same_block { OnNext result (IsInBlock top.old top.new) }
     ensures kinds { layer.new.kinds ≡ layer.old.kinds }
 {
@@ -153,7 +153,7 @@ fn bind_evaluated<V: View>(
 
 /// Goes into one of two blocks by a condition. A second one in which there is nothing, as where an `if` has no `else`, is passed by.
 #[inline(always)]
-fn choose<V: View>(
+pub fn choose<V: View>(
     layer: &mut Layer<V>,
     setting: Setting<'_>,
     here: Here,
@@ -161,25 +161,25 @@ fn choose<V: View>(
     first: usize,
     second: usize,
     top: &mut Activation,
-) -> Did
+) -> Chosen
     requires room { here.position.index + 1 < 2 ^ 64 }
-    ensures done { Does here.passes_syncs here.position (λ kit. evaluated here.statement
+    ensures done { Chooses here.passes_syncs here.position second (λ kit. evaluated here.statement
         (value_at setting.entry.tables.now.tables top.old.slots (plain condition.now))
         (choosing here.position first second)) top.old layer.old result top.new layer.new }
-    ensures empty { OnPassed result (λ block. instruction_at setting.entry.program.now.codes top.old.procedure block 0 ≡ None) }
-    ensures same_block { OnNext result (IsInBlock top.old top.new) }
+    ensures empty { OnPassed result (instruction_at setting.entry.program.now.codes top.old.procedure second 0 ≡ None) }
+    ensures same_block { OnPassed result (IsInBlock top.old top.new) }
     ensures kinds { layer.new.kinds ≡ layer.old.kinds }
 {
     match value_at_once(layer, condition, top.slots(), setting.tables) {
         Some(value) => {
             if value == 0 && is_empty(setting.program, top.procedure(), second) {
-                return Did::Passed(second);
+                return Chosen::Passed;
             }
             let block = if value == 0 { second } else { first };
             if top.go_inside(block, here.position).is_err() {
-                return Did::Nothing;
+                return Chosen::Nothing;
             }
-            Did::Moved
+            Chosen::Inside
         }
         None => choose_evaluated(layer, setting.tables, here, condition, first, second, top),
     }
@@ -203,12 +203,12 @@ fn choose_evaluated<V: View>(
     first: usize,
     second: usize,
     top: &mut Activation,
-) -> Did
+) -> Chosen
     requires room { here.position.index + 1 < 2 ^ 64 }
-    ensures done { Does here.passes_syncs here.position (λ kit. evaluated here.statement (value_at tables.now.tables top.old.slots (plain condition.now))
+    ensures done { Chooses here.passes_syncs here.position second (λ kit. evaluated here.statement
+        (value_at tables.now.tables top.old.slots (plain condition.now))
         (choosing here.position first second)) top.old layer.old result top.new layer.new }
-    ensures passes { PassesNone result }
-    ensures same_block { OnNext result (IsInBlock top.old top.new) }
+    ensures goes { OnPassed result (false ≡ true) }
     ensures kinds { layer.new.kinds ≡ layer.old.kinds }
 {
     let before = layer.readings();
@@ -217,13 +217,13 @@ fn choose_evaluated<V: View>(
             let block = if value == 0 { second } else { first };
             if top.go_inside(block, here.position).is_err() {
                 layer.forget(before);
-                return Did::Nothing;
+                return Chosen::Nothing;
             }
-            Did::Moved
+            Chosen::Inside
         }
         Err(_) => {
             layer.forget(before);
-            Did::Nothing
+            Chosen::Nothing
         }
     }
 }
@@ -239,7 +239,6 @@ fn give<V: View>(
 ) -> Did
     ensures done { Does here.passes_syncs here.position (λ kit. evaluated here.statement
         (value_at tables.now.tables top.old.slots (plain expression.now)) giving) top.old layer.old result top.new layer.new }
-    ensures passes { PassesNone result }
     ensures same_block { OnNext result (IsInBlock top.old top.new) }
     ensures kinds { layer.new.kinds ≡ layer.old.kinds }
 {
@@ -260,7 +259,6 @@ fn give_evaluated<V: View>(
 ) -> Did
     ensures done { Does here.passes_syncs here.position (λ kit. evaluated here.statement
         (value_at tables.now.tables top.old.slots (plain expression.now)) giving) top.old layer.old result top.new layer.new }
-    ensures passes { PassesNone result }
     ensures same_block { OnNext result (IsInBlock top.old top.new) }
     ensures kinds { layer.new.kinds ≡ layer.old.kinds }
 {

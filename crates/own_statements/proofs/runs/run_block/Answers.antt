@@ -5,20 +5,23 @@ use Rattle.positions.specs.declared.work.Work.TheVariants.{Block}
 use Rattle.positions.specs.Activations.{PlainActivation, at}
 use Rattle.positions.specs.Code.{instruction_inside}
 use Rattle.linked_program.specs.CodeView.{expression, instruction_at}
-use Rattle.evaluation.specs.Values.{values_at}
-use Rattle.positions.specs.Advance.{evaluated, combining}
+use Rattle.evaluation.specs.Values.{value_at, values_at}
+use Rattle.positions.specs.Advance.{evaluated, choosing, combining, performed}
 use Rattle.activations.specs.Given.{lent}
 use Rattle.own_statements.specs.declared.statements.Did.TheVariants.{Nothing, Next}
-use Rattle.own_statements.specs.Paths.{here, ComesTo, Does, OnNext, IsInBlock}
-use Rattle.own_statements.proofs.Paths.{run_join, come_next, come_passed, come_moved, come_gave, come_none, come_out, found_as}
+use Rattle.own_statements.specs.declared.statements.Chosen.{Chosen}
+use Rattle.own_statements.specs.declared.statements.Chosen.TheVariants as chosen
+use Rattle.own_statements.specs.Paths.{here, ComesTo, Chooses, Does, OnNext, IsInBlock}
+use Rattle.own_statements.proofs.Paths.{run_join, come_next, come_passed, come_inside, come_moved, come_gave, come_none, come_out, found_as}
+use Rattle.own_statements.proofs.Choices.{chooses_if}
 use Rattle.own_statements.proofs.Updates.{does_update}
 use Rattle.own_statements.proofs.runs.run_block.Goals as goal
 
 pub loop-index-init : goal.loop-index-init
 loop-index-init g c = record { kinds = refl; same = (refl, refl); come = λ s may. here }
 
-pub loop-index-preserved-in-Next : goal.loop-index-preserved-in-Next
-loop-index-preserved-in-Next g c =
+pub loop-index-preserved : goal.loop-index-preserved
+loop-index-preserved g c =
     let S = lent c.args.setting in
     let a = at (Block c.args.position) c.args.top.now in
     let xs = c.args.statements.now in
@@ -34,28 +37,6 @@ loop-index-preserved-in-Next g c =
       kinds = c.in-Next.ensures.kinds ∙ c.loop-index.invariant.kinds;
       same = (c.in-Next.ensures.same_block.0 ∙ c.loop-index.invariant.same.0, c.in-Next.ensures.same_block.1 ∙ c.loop-index.invariant.same.1);
       come = come_next S c.args.passes_syncs a c.args.layer.now p b c.loop-index.layer c.loop-index.invariant.come i found c.perform_alone.new.top c.perform_alone.new.layer c.in-Next.ensures.done;
-    }
-
-pub loop-index-preserved : goal.loop-index-preserved
-loop-index-preserved g c =
-    let S = lent c.args.setting in
-    let a = at (Block c.args.position) c.args.top.now in
-    let xs = c.args.statements.now in
-    let index = c.loop-index.index in
-    let i = c.index-statements-index.result in
-    let p : Position = record { block = c.args.position.block; index = index } in
-    let b = c.loop-index.top in
-    let there : index < length xs = search rules in
-    let found : Some i ≡ instruction_inside S.codes b.procedure (length b.outer) p =
-    sym (slice_get_read xs (length xs) index i refl there c.index-statements-index.is) ∙ c.requires.block index
-    ∙ found_as S.codes c.args.top.now b p c.loop-index.invariant.same.0 c.loop-index.invariant.same.1 in
-    let block = c.in-Passed.field-0 in
-    let none : instruction_at S.codes c.perform_alone.new.top.procedure block 0 ≡ None =
-    ap (λ f. instruction_at S.codes f block 0) c.in-Passed.ensures.same_block.0 ∙ c.in-Passed.ensures.empty in
-    record {
-      kinds = c.in-Passed.ensures.kinds ∙ c.loop-index.invariant.kinds;
-      same = (c.in-Passed.ensures.same_block.0 ∙ c.loop-index.invariant.same.0, c.in-Passed.ensures.same_block.1 ∙ c.loop-index.invariant.same.1);
-      come = come_passed S c.args.passes_syncs a c.args.layer.now p b c.loop-index.layer c.loop-index.invariant.come i found c.perform_alone.new.top c.perform_alone.new.layer block none c.in-Passed.ensures.done;
     }
 
 pub loop-index-preserved-in-Update : goal.loop-index-preserved-in-Update
@@ -125,25 +106,9 @@ returns-in-Moved-clause-ran g c =
     let found : Some i ≡ instruction_inside S.codes b.procedure (length b.outer) p =
     sym (slice_get_read xs (length xs) index i refl there c.index-statements-index.is) ∙ c.requires.block index
     ∙ found_as S.codes c.args.top.now b p c.loop-index.invariant.same.0 c.loop-index.invariant.same.1 in
-    run_join S c.args.passes_syncs a c.args.layer.now c.perform_alone.new.top c.perform_alone.new.layer c.ran_to.result c.perform_alone.new.top c.perform_alone.new.layer
+    run_join S c.args.passes_syncs a c.args.layer.now c.perform_alone.new.top c.perform_alone.new.layer c.ran_to-in-Moved.result c.perform_alone.new.top c.perform_alone.new.layer
     (come_moved S c.args.passes_syncs a c.args.layer.now p b c.loop-index.layer c.loop-index.invariant.come i found c.perform_alone.new.top c.perform_alone.new.layer c.in-Moved.ensures.done)
-    (c.ran_to.ensures.runs c.args.passes_syncs c.perform_alone.new.layer)
-
-pub returns-in-Nothing-clause-ran : goal.returns-in-Nothing-clause-ran
-returns-in-Nothing-clause-ran g c =
-    let S = lent c.args.setting in
-    let a = at (Block c.args.position) c.args.top.now in
-    let xs = c.args.statements.now in
-    let index = c.loop-index.index in
-    let i = c.index-statements-index.result in
-    let p : Position = record { block = c.args.position.block; index = index } in
-    let b = c.loop-index.top in
-    let there : index < length xs = search rules in
-    let found : Some i ≡ instruction_inside S.codes b.procedure (length b.outer) p =
-    sym (slice_get_read xs (length xs) index i refl there c.index-statements-index.is) ∙ c.requires.block index
-    ∙ found_as S.codes c.args.top.now b p c.loop-index.invariant.same.0 c.loop-index.invariant.same.1 in
-    subst (λ (y : PlainActivation). ComesTo S c.args.passes_syncs a c.args.layer.now None y c.perform_alone.new.layer) (sym c.stand-in-Nothing.ensures.stands)
-    (come_none S c.args.passes_syncs a c.args.layer.now p b c.loop-index.layer c.loop-index.invariant.come i found c.perform_alone.new.top c.perform_alone.new.layer c.in-Nothing.ensures.done)
+    (c.ran_to-in-Moved.ensures.runs c.args.passes_syncs c.perform_alone.new.layer)
 
 pub returns-in-Gave-clause-ran : goal.returns-in-Gave-clause-ran
 returns-in-Gave-clause-ran g c =
@@ -177,3 +142,75 @@ returns-clause-ran g c =
     run_join S c.args.passes_syncs a c.args.layer.now c.go_outside.new.self c.loop-index.layer c.ran_to-2.result c.go_outside.new.self c.loop-index.layer
     (come_out S c.args.passes_syncs a c.args.layer.now p b c.loop-index.layer c.loop-index.invariant.come c.go_outside.new.self found c.go_outside.ensures.outside)
     (c.ran_to-2.ensures.runs c.args.passes_syncs c.loop-index.layer)
+
+pub loop-index-preserved-in-Passed : goal.loop-index-preserved-in-Passed
+loop-index-preserved-in-Passed g c =
+    let S = lent c.args.setting in
+    let a = at (Block c.args.position) c.args.top.now in
+    let xs = c.args.statements.now in
+    let index = c.loop-index.index in
+    let i = c.index-statements-index.result in
+    let p : Position = record { block = c.args.position.block; index = index } in
+    let b = c.loop-index.top in
+    let there : index < length xs = search rules in
+    let found : Some i ≡ instruction_inside S.codes b.procedure (length b.outer) p =
+    sym (slice_get_read xs (length xs) index i refl there c.index-statements-index.is) ∙ c.requires.block index
+    ∙ found_as S.codes c.args.top.now b p c.loop-index.invariant.same.0 c.loop-index.invariant.same.1 in
+    let m = c.choose.new.top in
+    let n = c.choose.new.layer in
+    let block = c.in-If.second in
+    let done : (ch : Chosen) → Chooses c.args.passes_syncs p block (λ kit. evaluated i.number (value_at S.tables b.slots (expression c.in-If.condition)) (choosing p c.in-If.first block)) b c.loop-index.layer ch m n
+    → Chooses c.args.passes_syncs p block (λ kit. performed S kit p i.number i.operation) b c.loop-index.layer ch m n =
+    λ ch h. chooses_if S c.args.passes_syncs p i.number c.in-If.condition c.in-If.first block i.operation b c.loop-index.layer ch m n c.in-If.is h in
+    let none : instruction_at S.codes m.procedure block 0 ≡ None =
+    ap (λ f. instruction_at S.codes f block 0) c.in-Passed.ensures.same_block.0 ∙ c.in-Passed.ensures.empty in
+    record {
+      kinds = c.choose.ensures.kinds ∙ c.loop-index.invariant.kinds;
+      same = (c.in-Passed.ensures.same_block.0 ∙ c.loop-index.invariant.same.0, c.in-Passed.ensures.same_block.1 ∙ c.loop-index.invariant.same.1);
+      come = come_passed S c.args.passes_syncs a c.args.layer.now p b c.loop-index.layer c.loop-index.invariant.come i found m n block none (done chosen.Passed c.in-Passed.ensures.done);
+    }
+
+pub returns-in-Inside-clause-ran : goal.returns-in-Inside-clause-ran
+returns-in-Inside-clause-ran g c =
+    let S = lent c.args.setting in
+    let a = at (Block c.args.position) c.args.top.now in
+    let xs = c.args.statements.now in
+    let index = c.loop-index.index in
+    let i = c.index-statements-index.result in
+    let p : Position = record { block = c.args.position.block; index = index } in
+    let b = c.loop-index.top in
+    let there : index < length xs = search rules in
+    let found : Some i ≡ instruction_inside S.codes b.procedure (length b.outer) p =
+    sym (slice_get_read xs (length xs) index i refl there c.index-statements-index.is) ∙ c.requires.block index
+    ∙ found_as S.codes c.args.top.now b p c.loop-index.invariant.same.0 c.loop-index.invariant.same.1 in
+    let m = c.choose.new.top in
+    let n = c.choose.new.layer in
+    let block = c.in-If.second in
+    let done : (ch : Chosen) → Chooses c.args.passes_syncs p block (λ kit. evaluated i.number (value_at S.tables b.slots (expression c.in-If.condition)) (choosing p c.in-If.first block)) b c.loop-index.layer ch m n
+    → Chooses c.args.passes_syncs p block (λ kit. performed S kit p i.number i.operation) b c.loop-index.layer ch m n =
+    λ ch h. chooses_if S c.args.passes_syncs p i.number c.in-If.condition c.in-If.first block i.operation b c.loop-index.layer ch m n c.in-If.is h in
+    run_join S c.args.passes_syncs a c.args.layer.now m n c.ran_to.result m n
+    (come_inside S c.args.passes_syncs a c.args.layer.now p b c.loop-index.layer c.loop-index.invariant.come i found m n block (done chosen.Inside c.in-Inside.ensures.done))
+    (c.ran_to.ensures.runs c.args.passes_syncs n)
+
+pub returns-in-Nothing-clause-ran : goal.returns-in-Nothing-clause-ran
+returns-in-Nothing-clause-ran g c =
+    let S = lent c.args.setting in
+    let a = at (Block c.args.position) c.args.top.now in
+    let xs = c.args.statements.now in
+    let index = c.loop-index.index in
+    let i = c.index-statements-index.result in
+    let p : Position = record { block = c.args.position.block; index = index } in
+    let b = c.loop-index.top in
+    let there : index < length xs = search rules in
+    let found : Some i ≡ instruction_inside S.codes b.procedure (length b.outer) p =
+    sym (slice_get_read xs (length xs) index i refl there c.index-statements-index.is) ∙ c.requires.block index
+    ∙ found_as S.codes c.args.top.now b p c.loop-index.invariant.same.0 c.loop-index.invariant.same.1 in
+    let m = c.choose.new.top in
+    let n = c.choose.new.layer in
+    let block = c.in-If.second in
+    let done : (ch : Chosen) → Chooses c.args.passes_syncs p block (λ kit. evaluated i.number (value_at S.tables b.slots (expression c.in-If.condition)) (choosing p c.in-If.first block)) b c.loop-index.layer ch m n
+    → Chooses c.args.passes_syncs p block (λ kit. performed S kit p i.number i.operation) b c.loop-index.layer ch m n =
+    λ ch h. chooses_if S c.args.passes_syncs p i.number c.in-If.condition c.in-If.first block i.operation b c.loop-index.layer ch m n c.in-If.is h in
+    subst (λ (y : PlainActivation). ComesTo S c.args.passes_syncs a c.args.layer.now None y n) (sym c.stand-in-Nothing.ensures.stands)
+    (come_none S c.args.passes_syncs a c.args.layer.now p b c.loop-index.layer c.loop-index.invariant.come i found m n (done chosen.Nothing c.in-Nothing.ensures.done))

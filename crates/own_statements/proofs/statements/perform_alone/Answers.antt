@@ -4,10 +4,10 @@ use Rattle.linked_program.specs.declared.code.Operation.TheVariants as o
 use Rattle.linked_program.specs.CodeView.{expression}
 use Rattle.evaluation.specs.Values.{value_at}
 use Rattle.positions.specs.Strands.{is_entry}
-use Rattle.positions.specs.Advance.{evaluated, binding, choosing, giving, moved_on, performed}
+use Rattle.positions.specs.Advance.{evaluated, binding, giving, moved_on, performed}
 use Rattle.activations.specs.Given.{lent}
 use Rattle.own_statements.specs.Paths.{Does}
-use Rattle.own_statements.proofs.Paths.{does_as, none_passed}
+use Rattle.own_statements.proofs.Paths.{does_as}
 use Rattle.own_statements.proofs.statements.perform_alone.Goals as goal
 
 pub returns-in-Bind-clause-done : goal.returns-in-Bind-clause-done
@@ -18,15 +18,6 @@ returns-in-Bind-clause-done g c =
     let a = c.args.top.now in
     subst (λ (op : Operation). Does c.args.passes_syncs p (λ kit. performed S kit p n op) a c.args.layer.now c.bind.result c.bind.new.top c.bind.new.layer) (sym c.in-Bind.is)
     (does_as S c.args.passes_syncs p (λ (kit : Bool). evaluated n (value_at S.tables a.slots (expression c.in-Bind.value)) (binding p c.in-Bind.name)) (λ kit. performed S kit p n (o.Bind c.in-Bind.name c.in-Bind.value)) a c.args.layer.now c.bind.result c.bind.new.top c.bind.new.layer (λ kit s. refl) c.bind.ensures.done)
-
-pub returns-in-If-clause-done : goal.returns-in-If-clause-done
-returns-in-If-clause-done g c =
-    let S = lent c.args.setting in
-    let n = c.args.instruction.now.number in
-    let p = c.args.position in
-    let a = c.args.top.now in
-    subst (λ (op : Operation). Does c.args.passes_syncs p (λ kit. performed S kit p n op) a c.args.layer.now c.choose.result c.choose.new.top c.choose.new.layer) (sym c.in-If.is)
-    (does_as S c.args.passes_syncs p (λ (kit : Bool). evaluated n (value_at S.tables a.slots (expression c.in-If.condition)) (choosing p c.in-If.first c.in-If.second)) (λ kit. performed S kit p n (o.If c.in-If.condition c.in-If.first c.in-If.second)) a c.args.layer.now c.choose.result c.choose.new.top c.choose.new.layer (λ kit s. refl) c.choose.ensures.done)
 
 pub returns-in-Return-clause-done : goal.returns-in-Return-clause-done
 returns-in-Return-clause-done g c =
@@ -45,12 +36,3 @@ returns-in-Sync-clause-done g c =
     let a = c.args.top.now in
     subst (λ (op : Operation). Does c.args.passes_syncs p (λ kit. performed S kit p n op) a c.args.layer.now c.pass_sync.result c.pass_sync.new.top c.pass_sync.new.layer) (sym c.in-Sync.is)
     (does_as S c.args.passes_syncs p (λ (kit : Bool). (λ s. if is_entry s then s else moved_on p s)) (λ kit. performed S kit p n (o.Sync)) a c.args.layer.now c.pass_sync.result c.pass_sync.new.top c.pass_sync.new.layer (λ kit s. refl) c.pass_sync.ensures.done)
-
-pub returns-in-Bind-clause-empty : goal.returns-in-Bind-clause-empty
-returns-in-Bind-clause-empty g c = none_passed c.bind.result _ c.bind.ensures.passes
-
-pub returns-in-Return-clause-empty : goal.returns-in-Return-clause-empty
-returns-in-Return-clause-empty g c = none_passed c.give.result _ c.give.ensures.passes
-
-pub returns-in-Sync-clause-empty : goal.returns-in-Sync-clause-empty
-returns-in-Sync-clause-empty g c = none_passed c.pass_sync.result _ c.pass_sync.ensures.passes
