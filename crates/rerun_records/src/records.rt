@@ -139,6 +139,7 @@ impl Records {
     }
 
     /// The record of the procedure of that number with these arguments, valid or not, and its place.
+    #[inline(never)]
     pub fn place_of(&self, procedure: usize, arguments: &[i64]) -> Option<(usize, &Record)>
         ensures there { IfSome result (λ found.
             slice_get (map as_made self.now) found.0 ≡ Some found.1.now) }
@@ -154,6 +155,7 @@ impl Records {
     }
 
     /// The record of the procedure of that number with these arguments, valid or not, and its place, looked for at the near place first.
+    #[inline(always)]
     pub fn place_near(
         &self,
         near: usize,
@@ -172,6 +174,7 @@ impl Records {
     }
 
     // The record at that place, where it is that of the procedure of that number with these arguments.
+    #[inline(always)]
     fn found_at(&self, place: usize, procedure: usize, arguments: &[i64]) -> Option<&Record>
         ensures there { IfSome result (λ r.
             slice_get (map as_made self.now) place ≡ Some r.now) }
@@ -243,6 +246,7 @@ impl Records {
 
     /// Instances that records answer: that of the procedure of that number with these arguments, and those behind it in that
     /// series, in all as many as are known to go together. None where the first has no valid record. It takes no memory.
+    #[inline(always)]
     pub fn batch(
         &self,
         procedure: usize,

@@ -45,6 +45,7 @@ impl<T> ShortList<T> {
 
 impl<T: Copy> ShortList<T> {
     /// Copies of these items, without spare room. Want of memory is the only error.
+    #[inline(always)]
     pub fn from_slice(alloc: Global, items: &[T]) -> Result<ShortList<T>, AllocError>
         ensures same { IfOk result (λ list. items_in list ≡ items.now) }
     {
