@@ -2,7 +2,7 @@
 use Rattle.std.specs.Prelude.{List, []}
 use Rattle.linked_program.specs.Checked.{PlainChecked}
 use Rattle.input_tables.specs.Edited.{Edited}
-use Rattle.rerun_records.specs.Record.{PlainRecord}
+use Rattle.record_theory.specs.Record.{PlainRecord}
 use Rattle.positions.specs.Setting.{Setting, setting_with}
 use Rattle.positions.specs.Code.{PlainLoop}
 use Rattle.activations.specs.declared.setting.Setting.{Setting as Lent}

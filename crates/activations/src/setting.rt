@@ -1,5 +1,5 @@
 //! What a step reads.
-ghost use Rattle.rerun_records.specs.InStep.{IsInStep};
+ghost use Rattle.record_theory.specs.InStep.{IsInStep};
 
 use input_tables::Tables;
 use linked_program::checked::Checked;

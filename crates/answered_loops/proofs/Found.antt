@@ -5,8 +5,8 @@ use Rattle.std.specs.Ordering.{int_eq}
 use Rattle.std.specs.Cmp.Lexicographic.{pointwise}
 use Rattle.std.proofs.lemmas.Bool.Decides.{Decides-int_eq}
 use Rattle.std.proofs.lemmas.Slice.Eq.{slice_eq-Decides}
-use Rattle.rerun_records.specs.Record.{PlainRecord, is_of, as_made}
-use Rattle.rerun_records.specs.Validity.{only_valid, record_valid}
+use Rattle.record_theory.specs.Record.{PlainRecord, is_of, as_made}
+use Rattle.record_theory.specs.Validity.{only_valid, record_valid}
 use Rattle.positions.specs.Setting.{Setting}
 use Rattle.positions.specs.Advance.{record_for}
 

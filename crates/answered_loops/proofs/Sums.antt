@@ -6,10 +6,10 @@ use Rattle.std.proofs.lemmas.List.{append-nil, map-append}
 use Rattle.meaning.specs.Every.{every}
 use Rattle.monoid_laws.specs.declared.Kind.{Kind}
 use Rattle.monoid_laws.specs.Kinds.{AreWorths}
-use Rattle.rerun_records.specs.Record.{PlainRecord}
-use Rattle.rerun_records.specs.Named.{SameMembers}
-use Rattle.rerun_records.specs.Sums.{IsSumOf, highest, contributed}
-use Rattle.rerun_records.proofs.Members.{every_member}
+use Rattle.record_theory.specs.Record.{PlainRecord}
+use Rattle.record_theory.specs.Named.{SameMembers}
+use Rattle.record_theory.specs.Sums.{IsSumOf, highest, contributed}
+use Rattle.record_theory.proofs.Members.{every_member}
 use Rattle.positions.specs.Layers.{PlainLayer, absorbing, flagged}
 use Rattle.answered_loops.specs.Answered.{absorbed}
 

@@ -9,7 +9,7 @@ use Rattle.linked_program.specs.Linked.{Linked}
 use Rattle.linked_program.specs.CodeView.{expression, slots_of}
 use Rattle.evaluation.specs.declared.note.Note.{Note}
 use Rattle.evaluation.specs.Slots.{slots_for}
-use Rattle.rerun_records.specs.Record.{PlainRecord}
+use Rattle.record_theory.specs.Record.{PlainRecord}
 use Rattle.positions.specs.declared.work.Loop.{Loop}
 use Rattle.positions.specs.declared.work.Share.{Share}
 use Rattle.positions.specs.declared.work.Work.{Work}

@@ -1,7 +1,7 @@
 -- Iterations of a loop that records answer, in one go: what the type of a strand keeps, and what a call came to.
 use Rattle.std.proofs.Common.{◌≡◌, Bool, List, length, All, Result, Ok, Err, OnOk, OnErr, refl, sym, ap, ◌∙◌, subst}
 use Rattle.monoid_laws.specs.declared.Kind.{Kind}
-use Rattle.rerun_records.specs.Named.{HaveValues}
+use Rattle.record_theory.specs.Named.{HaveValues}
 use Rattle.positions.specs.declared.phase.Phase.{Phase}
 use Rattle.positions.specs.declared.phase.Phase.TheVariants.{Entering, Running, AtSpawn, Returning, Leaving, Broken}
 use Rattle.positions.specs.Setting.{Setting}

@@ -1,7 +1,7 @@
 -- What many steps in one go keep.
 use Rattle.std.proofs.Common.{◌≡◌, List, All, sym, subst}
 use Rattle.monoid_laws.specs.declared.Kind.{Kind}
-use Rattle.rerun_records.specs.Named.{HaveValues}
+use Rattle.record_theory.specs.Named.{HaveValues}
 use Rattle.positions.specs.Setting.{Setting}
 use Rattle.positions.specs.Layers.{PlainLayer}
 use Rattle.positions.specs.Tallies.{PlainTally}

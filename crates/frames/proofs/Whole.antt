@@ -2,8 +2,8 @@
 use Rattle.std.proofs.Common.{◌≡◌, ℕ, ℤ, Bool, List, [], ◌∷◌, length, All, Option, Some, None, Result, Ok, Err, OnOk, OnErr, refl, sym, ap, ◌∙◌, subst, arith}
 use Rattle.std.proofs.lemmas.List.Elements.{All-cons, All-tail, All-nil}
 use Rattle.monoid_laws.specs.declared.Kind.{Kind}
-use Rattle.rerun_records.specs.Record.{PlainRecord}
-use Rattle.rerun_records.specs.Named.{HasValuesIfAnswers, HaveValues}
+use Rattle.record_theory.specs.Record.{PlainRecord}
+use Rattle.record_theory.specs.Named.{HasValuesIfAnswers, HaveValues}
 use Rattle.positions.specs.declared.phase.Phase.{Phase}
 use Rattle.positions.specs.declared.phase.Phase.TheVariants.{Entering, Running, AtSpawn, Returning, Leaving, Broken}
 use Rattle.positions.specs.Setting.{Setting}

@@ -3,8 +3,8 @@ ghost use Rattle.std.specs.Prelude.{◌≡◌, ◌+◌, ◌≤◌, suc, length, 
 ghost use Rattle.monoid_laws.specs.declared.Kind.{Kind};
 ghost use Rattle.monoid_laws.specs.Kinds.{IsMonoid};
 ghost use Rattle.meaning.specs.Records.{Kept};
-ghost use Rattle.rerun_records.specs.Named.{AreKept, HaveValues};
-ghost use Rattle.rerun_records.specs.InStep.{IsInStep};
+ghost use Rattle.record_theory.specs.Named.{AreKept, HaveValues};
+ghost use Rattle.record_theory.specs.InStep.{IsInStep};
 ghost use Rattle.positions.specs.Setting.{HasItsTables, setting_with};
 ghost use Rattle.positions.specs.Simulation.{IsPause, IsStepTaken};
 ghost use Rattle.positions.specs.Advance.{advanced, pause_of};

@@ -1,8 +1,8 @@
 // Many small steps in one go.
 ghost use Rattle.std.specs.Prelude.{◌≡◌, List};
 ghost use Rattle.meaning.specs.Records.{Kept};
-ghost use Rattle.rerun_records.specs.InStep.{IsInStep};
-ghost use Rattle.rerun_records.specs.Named.{AreKept};
+ghost use Rattle.record_theory.specs.InStep.{IsInStep};
+ghost use Rattle.record_theory.specs.Named.{AreKept};
 ghost use Rattle.positions.specs.Setting.{HasItsTables, setting_with};
 ghost use Rattle.activations.specs.Given.{setting_over};
 ghost use Rattle.answered_loops.specs.Ways.{IsWay, IsWayOf};

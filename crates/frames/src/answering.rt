@@ -2,8 +2,8 @@
 ghost use Rattle.std.specs.Prelude.{◌≡◌, List, All, OnOk};
 ghost use Rattle.monoid_laws.specs.Kinds.{IsMonoid};
 ghost use Rattle.meaning.specs.Records.{Kept};
-ghost use Rattle.rerun_records.specs.InStep.{IsInStep};
-ghost use Rattle.rerun_records.specs.Named.{AreKept, HaveValues};
+ghost use Rattle.record_theory.specs.InStep.{IsInStep};
+ghost use Rattle.record_theory.specs.Named.{AreKept, HaveValues};
 ghost use Rattle.positions.specs.Setting.{HasItsTables, setting_with};
 ghost use Rattle.activations.specs.Given.{setting_over};
 ghost use Rattle.answered_loops.specs.Ways.{IsWay, IsWayOf};

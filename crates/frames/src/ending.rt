@@ -9,9 +9,9 @@ ghost use Rattle.strand_moves.specs.Joins.{HasFault};
 ghost use Rattle.frames.specs.Answers.{ending_of, over, IsAnswer, IsAnswerOf};
 
 use crate::strand::Strand;
+use instance_records::record::Record;
 use positions::answer::RunAnswer;
 use positions::phase::Phase;
-use rerun_records::record::Record;
 use small_steps::machine::Machine;
 use std::alloc::{AllocError, Global};
 use strand_moves::ending::{close_upper, left_with, let_go};

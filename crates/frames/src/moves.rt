@@ -2,7 +2,7 @@
 ghost use Rattle.std.specs.Prelude.{◌≡◌, ◌∷◌, [], List, IfOk, IfErr};
 ghost use Rattle.meaning.specs.Tables.{Tables};
 ghost use Rattle.meaning.specs.Records.{Kept};
-ghost use Rattle.rerun_records.specs.Record.{PlainRecord};
+ghost use Rattle.record_theory.specs.Record.{PlainRecord};
 ghost use Rattle.positions.specs.Setting.{Setting, setting_with};
 ghost use Rattle.positions.specs.Simulation.{IsFirst, IsStolen, IsInlined, IsDetached, IsAttached, IsResumed, IsUpdateNext};
 ghost use Rattle.positions.specs.Moves.{first_strand, stolen, inlined, detached, attached, returned_of, resumed, at_update};

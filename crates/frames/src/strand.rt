@@ -1,7 +1,7 @@
 //! A strand: a stack of instances, run by small steps, with the layers of its reducers' views.
 ghost use Rattle.std.specs.Prelude.{◌≡◌, All};
 ghost use Rattle.positions.specs.Strands.{IsLayered};
-ghost use Rattle.rerun_records.specs.Named.{HaveValues};
+ghost use Rattle.record_theory.specs.Named.{HaveValues};
 
 use positions::phase::Phase;
 use small_steps::machine::Machine;

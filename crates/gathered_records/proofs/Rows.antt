@@ -8,15 +8,14 @@ use Rattle.monoid_laws.specs.declared.Kind.{Kind}
 use Rattle.monoid_laws.specs.Kinds.{IsMonoid}
 use Rattle.meaning.specs.Elision.{depth_limit}
 use Rattle.meaning.specs.Every.{every}
-use Rattle.rerun_records.specs.Record.{PlainRecord, as_made}
-use Rattle.rerun_records.specs.Named.{HasValuesIfAnswers, HaveValues}
-use Rattle.rerun_records.specs.Sums.{IsSumOf}
+use Rattle.record_theory.specs.Record.{PlainRecord, as_made}
+use Rattle.record_theory.specs.Named.{HasValuesIfAnswers, HaveValues}
+use Rattle.record_theory.specs.Sums.{IsSumOf}
 use Rattle.gathered_records.specs.Summing.{PlainSum, at_places, got_before, added, summed, HasSummed}
 use Rattle.rerun_records.specs.Blocks.{PlainBlock, AreLeaves, BlockFits, is_fresh_at}
 use Rattle.gathered_records.specs.Gathering.{PlainRow, moved_to, IsThere, AreInRow, IsPart}
-use Rattle.rerun_records.proofs.Members.{both}
-use Rattle.rerun_records.proofs.NodeNotes.{every_append}
-use Rattle.rerun_records.proofs.Puts.{same_values}
+use Rattle.record_theory.proofs.Members.{both, every_append}
+use Rattle.record_theory.proofs.Puts.{same_values}
 use Rattle.gathered_records.proofs.Summed.{one_part_more, one_record_more, sum_is}
 
 -- ---- records at places

@@ -12,13 +12,13 @@ use Rattle.monoid_laws.specs.declared.Val.{Val}
 use Rattle.monoid_laws.specs.Worth.{Worth}
 use Rattle.monoid_laws.specs.Kinds.{meaning, operate, operate_all, identities, AreWorths, IsWorth, IsMonoid}
 use Rattle.monoid_laws.proofs.Rows.{operate_all_identities, operate_all_assoc, operate_all_right, AreWorths-at, AreWorths-identities}
-use Rattle.rerun_records.specs.Record.{PlainRecord, touched}
-use Rattle.rerun_records.specs.Named.{filled, SameMembers, IsValueAt, AreValuesFrom}
-use Rattle.rerun_records.specs.Sums.{IsSumOf, contributed, highest, arguments_of_last}
+use Rattle.record_theory.specs.Record.{PlainRecord, touched}
+use Rattle.record_theory.specs.Named.{filled, SameMembers, IsValueAt, AreValuesFrom}
+use Rattle.record_theory.specs.Sums.{IsSumOf, contributed, highest, arguments_of_last}
 use Rattle.gathered_records.specs.Summing.{PlainSum, same_entry, put_entry, put_entries, numbered_from, summed, nothing_summed, added, HasSummed}
-use Rattle.rerun_records.proofs.Absorbed.{each, same_at, filled_right}
-use Rattle.rerun_records.proofs.Members.{left_is, right_is}
-use Rattle.rerun_records.proofs.Singles.{sum_of_one}
+use Rattle.record_theory.proofs.Absorbed.{each, same_at, filled_right}
+use Rattle.record_theory.proofs.Members.{left_is, right_is}
+use Rattle.record_theory.proofs.Singles.{sum_of_one}
 
 -- ---- lists with the same members
 

@@ -2,7 +2,7 @@
 use Rattle.std.specs.Prelude.{◌≡◌, ℕ, ℤ, true, List, Some, map, slice_get, slice_set}
 use Rattle.meaning.specs.Every.{every}
 use Rattle.monoid_laws.specs.declared.Kind.{Kind}
-use Rattle.rerun_records.specs.Record.{PlainRecord, as_made}
+use Rattle.record_theory.specs.Record.{PlainRecord, as_made}
 use Rattle.gathered_records.specs.Summing.{at_places}
 use Rattle.rerun_records.specs.Blocks.{PlainBlock, AreLeaves, BlockFits, is_fresh_at}
 

@@ -5,9 +5,9 @@ use Rattle.monoid_laws.specs.Worth.{Worth}
 use Rattle.monoid_laws.specs.declared.Kind.{Kind}
 use Rattle.monoid_laws.specs.Kinds.{operate_all, identities, AreWorths}
 use Rattle.evaluation.specs.declared.note.Note.{Note}
-use Rattle.rerun_records.specs.Record.{PlainRecord}
-use Rattle.rerun_records.specs.Named.{filled, SameMembers}
-use Rattle.rerun_records.specs.Sums.{contributed, highest, arguments_of_last}
+use Rattle.record_theory.specs.Record.{PlainRecord}
+use Rattle.record_theory.specs.Named.{filled, SameMembers}
+use Rattle.record_theory.specs.Sums.{contributed, highest, arguments_of_last}
 
 -- what the records have together so far: the values of all reducers, and procedure, arguments and value of the last record
 pub record PlainSum : Type 0 where

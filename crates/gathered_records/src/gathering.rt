@@ -1,7 +1,7 @@
 //! Records in a row are gathered into blocks, so that what they have together answers them all.
 ghost use Rattle.std.specs.Prelude.{◌≡◌, ◌+ℤ◌, ℤ, pos, true, IfOk, OnSome, IfSome, Some, All, slice_get};
 ghost use Rattle.monoid_laws.specs.Kinds.{IsMonoid};
-ghost use Rattle.rerun_records.specs.Named.{HaveValues};
+ghost use Rattle.record_theory.specs.Named.{HaveValues};
 ghost use Rattle.rerun_records.specs.Blocks.{is_fresh_at};
 ghost use Rattle.gathered_records.specs.Gathering.{moved_to, IsThere, AreInRow};
 
@@ -11,11 +11,11 @@ use crate::stretch::{Bounds, Stretches};
 use crate::sums::sum_at;
 use crate::tried::Tried;
 use crate::widening::widen_at;
+use instance_records::record::Record;
 use linked_program::checked::Checked;
 use monoid_laws::Kind;
 use rerun_records::block::Block;
 use rerun_records::blocks::Width;
-use rerun_records::record::Record;
 use rerun_records::records::Records;
 use std::alloc::{AllocError, Global};
 

@@ -5,18 +5,18 @@ ghost use Rattle.monoid_laws.specs.Worth.{Worth};
 ghost use Rattle.monoid_laws.specs.declared.Kind.{Kind as PlainKind};
 ghost use Rattle.monoid_laws.specs.Kinds.{meaning, identities, operate, operate_all, AreWorths, IsMonoid, IsWorth};
 ghost use Rattle.meaning.specs.Elision.{depth_limit};
-ghost use Rattle.rerun_records.specs.Record.{PlainRecord, touched};
-ghost use Rattle.rerun_records.specs.Named.{filled, AreValuesFrom, HaveValues};
-ghost use Rattle.rerun_records.specs.ShortLists.{items_in};
-ghost use Rattle.rerun_records.specs.Sums.{IsSumOf};
+ghost use Rattle.record_theory.specs.Record.{PlainRecord, touched};
+ghost use Rattle.record_theory.specs.Named.{filled, AreValuesFrom, HaveValues};
+ghost use Rattle.instance_records.specs.ShortLists.{items_in};
+ghost use Rattle.record_theory.specs.Sums.{IsSumOf};
 ghost use Rattle.gathered_records.specs.Summing.{nothing_summed, added, summed, same_entry, put_entry, put_entries, numbered_from, at_places};
 
+use instance_records::readings::Readings;
+use instance_records::record::Record;
+use instance_records::short_list::ShortList;
 use meaning::DEPTH_LIMIT;
 use monoid_laws::{Kind, Val};
 use reducer_values::{combine_copy, identity};
-use rerun_records::readings::Readings;
-use rerun_records::record::Record;
-use rerun_records::short_list::ShortList;
 use std::alloc::{AllocError, Global};
 use std::marker::Model;
 
@@ -39,8 +39,8 @@ pub(crate) struct Sum {
 impl Model for Sum {
     ghost use Rattle.std.specs.Prelude.{map};
     ghost use Rattle.monoid_laws.specs.Kinds.{meaning};
-    ghost use Rattle.rerun_records.specs.Readings.{all_of};
-    ghost use Rattle.rerun_records.specs.ShortLists.{items_in};
+    ghost use Rattle.instance_records.specs.Readings.{all_of};
+    ghost use Rattle.instance_records.specs.ShortLists.{items_in};
     ghost use Rattle.gathered_records.specs.Summing.{PlainSum};
 
     ghost Value = { PlainSum };

@@ -1,8 +1,8 @@
 // Blocks in a row are joined into wider ones.
 ghost use Rattle.std.specs.Prelude.{◌≡◌, ◌<◌, ◌+ℤ◌, ◌++◌, ℤ, pos, [], OnOk, OnSome, IfSome, All, length, map, slice_get, Some, true};
 ghost use Rattle.monoid_laws.specs.Kinds.{AreWorths, IsMonoid};
-ghost use Rattle.rerun_records.specs.Record.{as_made};
-ghost use Rattle.rerun_records.specs.Named.{AreValuesFrom};
+ghost use Rattle.record_theory.specs.Record.{as_made};
+ghost use Rattle.record_theory.specs.Named.{AreValuesFrom};
 ghost use Rattle.gathered_records.specs.Summing.{at_places, nothing_summed, added, HasSummed};
 ghost use Rattle.gathered_records.specs.Gathering.{moved_to, AreInRow, IsPart};
 

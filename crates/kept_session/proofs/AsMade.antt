@@ -7,11 +7,11 @@ use Rattle.trail_theory.specs.Order.{Every}
 use Rattle.linked_program.specs.TableNames.{columned_of}
 use Rattle.linked_program.specs.Checked.{PlainChecked, revised_of}
 use Rattle.input_tables.specs.Edited.{Edited}
-use Rattle.rerun_records.specs.Record.{PlainRecord, as_made}
-use Rattle.rerun_records.specs.InStep.{ReadNow}
-use Rattle.rerun_records.specs.Named.{AreKept}
-use Rattle.rerun_records.proofs.Members.{both}
-use Rattle.rerun_records.proofs.Lookups.{same_but_numbers, agree_now}
+use Rattle.record_theory.specs.Record.{PlainRecord, as_made}
+use Rattle.record_theory.specs.InStep.{ReadNow}
+use Rattle.record_theory.specs.Named.{AreKept}
+use Rattle.record_theory.proofs.Members.{both}
+use Rattle.record_theory.proofs.Lookups.{same_but_numbers, agree_now}
 use Rattle.kept_session.specs.Sessions.{AreKeptFor, IsRightNow, AreNewFor}
 
 pub twice : (rs : List PlainRecord) → map as_made (map as_made rs) ≡ map as_made rs

@@ -11,8 +11,8 @@ use Rattle.linked_program.specs.TableNames.{Columned, columned_of}
 use Rattle.input_tables.specs.Edited.{Edited, beside, names_of, columns_at}
 use Rattle.input_tables.proofs.Numbered.{table_of-place}
 use Rattle.rules_theory.proofs.EditedTables.{put_keeps_columns, delete_keeps_columns}
-use Rattle.rerun_records.specs.Record.{as_made}
-use Rattle.rerun_records.specs.InStep.{IsSameBut}
+use Rattle.record_theory.specs.Record.{as_made}
+use Rattle.record_theory.specs.InStep.{IsSameBut}
 use Rattle.record_index.specs.Befores.{HasRoomFor}
 use Rattle.record_index.specs.Indexed.{PlainIndexed, IsIndexed, IsNoted, IsBeside, HaveSameColumns}
 use Rattle.kept_session.proofs.SameBut.{put_same_but, delete_same_but}

@@ -15,8 +15,8 @@ use Rattle.trail_theory.proofs.Contributions.{commits_sound}
 use Rattle.linked_program.specs.TableNames.{Columned}
 use Rattle.linked_program.specs.Checked.{PlainChecked, IsChecked, revised_of}
 use Rattle.input_tables.specs.Edited.{Edited}
-use Rattle.rerun_records.specs.Record.{PlainRecord}
-use Rattle.rerun_records.specs.Named.{IsRecord, AreRecords, SameMembers, numbered_entry, CommitsNamed, HasValuesIfAnswers, HaveValues}
+use Rattle.record_theory.specs.Record.{PlainRecord}
+use Rattle.record_theory.specs.Named.{IsRecord, AreRecords, SameMembers, numbered_entry, CommitsNamed, HasValuesIfAnswers, HaveValues}
 use Rattle.checked_defines.specs.Standings.{KeepsPlaces, KeepsNumbers}
 use Rattle.checked_defines.proofs.Numbers.{keeps_numbers, current_are_there}
 use Rattle.kept_session.specs.Sessions.{NamesThere, AreKeptFor, IsRightNow, AreNewFor}

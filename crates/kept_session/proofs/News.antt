@@ -5,8 +5,8 @@ use Rattle.trail_theory.specs.Order.{Every}
 use Rattle.trail_theory.specs.OpenLayers.{IsNewRecord}
 use Rattle.linked_program.specs.Checked.{PlainChecked, revised_of}
 use Rattle.input_tables.specs.Edited.{Edited}
-use Rattle.rerun_records.specs.Record.{PlainRecord}
-use Rattle.rerun_records.specs.Named.{AreKept}
+use Rattle.record_theory.specs.Record.{PlainRecord}
+use Rattle.record_theory.specs.Named.{AreKept}
 use Rattle.kept_session.specs.Sessions.{IsRightNow, AreNewFor}
 
 module _ (program : PlainChecked) (tables : Edited) where

@@ -15,11 +15,11 @@ use Rattle.linked_program.specs.Checked.{PlainChecked, IsChecked, names_in, revi
 use Rattle.linked_program.specs.Procedures.{procedures}
 use Rattle.linked_program.proofs.Numbers.{procedure_is}
 use Rattle.input_tables.specs.Edited.{Edited}
-use Rattle.rerun_records.specs.Record.{PlainRecord}
-use Rattle.rerun_records.specs.Named.{IsKept, AreKept, number_of, numbered_entry}
-use Rattle.rerun_records.specs.Validity.{has_revision}
-use Rattle.rerun_records.proofs.Members.{both, right_is, every_member, every_mapped}
-use Rattle.rerun_records.proofs.Numbers.{current_is}
+use Rattle.record_theory.specs.Record.{PlainRecord}
+use Rattle.record_theory.specs.Named.{IsKept, AreKept, number_of, numbered_entry}
+use Rattle.record_theory.specs.Validity.{has_revision}
+use Rattle.record_theory.proofs.Members.{both, right_is, every_member, every_mapped}
+use Rattle.record_theory.proofs.Numbers.{current_is}
 use Rattle.checked_defines.specs.Standings.{called_in, KeepsPlaces}
 use Rattle.record_index.specs.Indexed.{PlainIndexed, IsIndexed, nothing_indexed, IsLonger, EnteredNow, are_current}
 use Rattle.kept_session.specs.Sessions.{IsRightNow, AreNewFor}

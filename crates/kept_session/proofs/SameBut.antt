@@ -13,7 +13,7 @@ use Rattle.linked_program.specs.Checked.{nothing}
 use Rattle.input_tables.specs.Edited.{Edited, beside, names_of, rows_at, changed_at, row_into, row_out_of}
 use Rattle.input_tables.proofs.Numbered.{changed_at-place}
 use Rattle.input_tables.proofs.Orders.{lower, same, higher, compared}
-use Rattle.rerun_records.specs.InStep.{IsSameBut}
+use Rattle.record_theory.specs.InStep.{IsSameBut}
 
 -- ---- rows
 

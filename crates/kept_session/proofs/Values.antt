@@ -15,8 +15,8 @@ use Rattle.trail_theory.specs.ReadsAtEnd.{ReadsAtMainsEnd}
 use Rattle.trail_theory.specs.Typed.{kinds_of, HasMonoids, TablesFit}
 use Rattle.linked_program.specs.Checked.{PlainChecked, IsChecked, revised_of}
 use Rattle.input_tables.specs.Edited.{Edited, CellsFit}
-use Rattle.rerun_records.specs.Record.{PlainRecord}
-use Rattle.rerun_records.specs.Named.{NameReducersFrom, IsKept, AreKept, IsValueAt, AreValuesFrom, HasValuesIfAnswers, HaveValues, filled}
+use Rattle.record_theory.specs.Record.{PlainRecord}
+use Rattle.record_theory.specs.Named.{NameReducersFrom, IsKept, AreKept, IsValueAt, AreValuesFrom, HasValuesIfAnswers, HaveValues, filled}
 use Rattle.rules_theory.proofs.Monoids.{has_monoids}
 use Rattle.rules_theory.proofs.Reading.{main_reads_at_its_end}
 use Rattle.kept_session.specs.Sessions.{IsRightNow, AreNewFor}

@@ -8,7 +8,7 @@ use Rattle.input_tables.specs.declared.refusal.PutError.{PutError}
 use Rattle.input_tables.specs.declared.refusal.PutError.TheVariants as put
 use Rattle.checked_defines.specs.declared.refusal.DefineError.{DefineError}
 use Rattle.checked_defines.specs.declared.refusal.DefineError.TheVariants as define
-use Rattle.rerun_records.specs.Record.{as_made}
+use Rattle.record_theory.specs.Record.{as_made}
 use Rattle.kept_session.specs.declared.refusal.ApplyError.{ApplyError}
 use Rattle.kept_session.specs.declared.refusal.ApplyError.TheVariants.{NoMemory, Refused}
 use Rattle.kept_session.specs.Sessions.{PlainSession, standing_of}

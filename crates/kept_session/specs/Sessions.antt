@@ -12,9 +12,9 @@ use Rattle.trail_theory.specs.Order.{Every}
 use Rattle.linked_program.specs.TableNames.{columned_of}
 use Rattle.linked_program.specs.Checked.{PlainChecked, revised_of}
 use Rattle.input_tables.specs.Edited.{Edited}
-use Rattle.rerun_records.specs.Record.{PlainRecord}
-use Rattle.rerun_records.specs.InStep.{IsInStep}
-use Rattle.rerun_records.specs.Named.{AreKept, HaveValues}
+use Rattle.record_theory.specs.Record.{PlainRecord}
+use Rattle.record_theory.specs.InStep.{IsInStep}
+use Rattle.record_theory.specs.Named.{AreKept, HaveValues}
 use Rattle.checked_defines.specs.Standings.{standing}
 use Rattle.numbered_runs.specs.Sound.{AreSoundFor}
 

@@ -4,7 +4,7 @@ ghost use Rattle.meaning.specs.Tables.{index_of};
 ghost use Rattle.meaning.specs.Edits.{Put, Delete, Define, after_put, after_delete, after_define};
 ghost use Rattle.checked_defines.specs.Readers.{reads_text, checks_rules};
 ghost use Rattle.input_tables.specs.Edited.{names_of};
-ghost use Rattle.rerun_records.specs.Record.{as_made};
+ghost use Rattle.record_theory.specs.Record.{as_made};
 ghost use Rattle.record_index.specs.Befores.{HasRoomFor};
 ghost use Rattle.record_index.specs.Indexed.{IsNoted};
 ghost use Rattle.kept_session.specs.Sessions.{standing_of};

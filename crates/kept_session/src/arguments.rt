@@ -2,7 +2,7 @@
 ghost use Rattle.std.specs.Prelude.{All};
 ghost use Rattle.monoid_laws.specs.Kinds.{Fits};
 
-use rerun_records::record::Record;
+use instance_records::record::Record;
 
 /// The arguments of each of these records.
 pub(crate) fn arguments_fit(records: &[Record])

@@ -1,10 +1,10 @@
 // A session: a checked program, its tables, its pool of kits, and the records that its runs have left.
 ghost use Rattle.std.specs.Prelude.{◌≡◌, ◌<◌, [], true, false, All, Ok, length, map, option_copied, IfOk, IfErr, OnOk, OnErr};
 ghost use Rattle.linked_program.specs.TableNames.{columned_of};
-ghost use Rattle.rerun_records.specs.Record.{as_made};
-ghost use Rattle.rerun_records.specs.InStep.{IsInStep};
-ghost use Rattle.rerun_records.specs.Commits.{put_records};
-ghost use Rattle.rerun_records.specs.Named.{looked_up, HaveValues};
+ghost use Rattle.record_theory.specs.Record.{as_made};
+ghost use Rattle.record_theory.specs.InStep.{IsInStep};
+ghost use Rattle.record_theory.specs.Commits.{put_records};
+ghost use Rattle.record_theory.specs.Named.{looked_up, HaveValues};
 ghost use Rattle.numbered_runs.specs.Sound.{AreSoundFor};
 ghost use Rattle.record_index.specs.Indexed.{IsStale, record_for};
 ghost use Rattle.session_edits.specs.Said.{said};
@@ -16,11 +16,11 @@ use crate::blocks::Blocks;
 use crate::refusal::ApplyError;
 use crate::settling::keep;
 use input_tables::Tables;
+use instance_records::key::Key;
+use instance_records::record::Record;
 use linked_program::checked::Checked;
 use numbered_runs::refusal::StartError;
 use record_index::indexed::IndexedRecords;
-use rerun_records::key::Key;
-use rerun_records::record::Record;
 use rerun_records::records::Records;
 use session_edits::Edit;
 use std::alloc::{AllocError, Global};

@@ -2,16 +2,16 @@
 ghost use Rattle.std.specs.Prelude.{◌≡◌, List, All, map, OnOk, OnErr};
 ghost use Rattle.monoid_laws.specs.declared.Kind.{Kind as PlainKind};
 ghost use Rattle.monoid_laws.specs.Kinds.{IsMonoid};
-ghost use Rattle.rerun_records.specs.Record.{as_made};
-ghost use Rattle.rerun_records.specs.Commits.{put_records};
-ghost use Rattle.rerun_records.specs.InStep.{ReadNow};
-ghost use Rattle.rerun_records.specs.Named.{HaveValues, CommitsNamed};
+ghost use Rattle.record_theory.specs.Record.{as_made};
+ghost use Rattle.record_theory.specs.Commits.{put_records};
+ghost use Rattle.record_theory.specs.InStep.{ReadNow};
+ghost use Rattle.record_theory.specs.Named.{HaveValues, CommitsNamed};
 ghost use Rattle.record_index.specs.Indexed.{IsIndexed, EnteredNow};
 
 use input_tables::Tables;
+use instance_records::record::Record;
 use linked_program::checked::Checked;
 use record_index::indexed::IndexedRecords;
-use rerun_records::record::Record;
 use std::alloc::AllocError;
 
 /// Puts records in, and then makes blocks of those in a row, if they are to be made at once. Where memory is refused nothing has

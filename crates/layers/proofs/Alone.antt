@@ -3,7 +3,7 @@ use Rattle.std.proofs.Common.{◌≡◌, ◌++◌, ◌∷◌, [], ◌∙◌, Lis
 use Rattle.std.proofs.lemmas.Bool.Decides.{Decides-eqb}
 use Rattle.std.proofs.lemmas.List.{append-nil}
 use Rattle.evaluation.specs.declared.note.Note.{Note}
-use Rattle.rerun_records.specs.Readings.{all_of}
+use Rattle.instance_records.specs.Readings.{all_of}
 use Rattle.positions.specs.Values.{once}
 
 -- where nothing is shared, readings that are distinct are kept as they are

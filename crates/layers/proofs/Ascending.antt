@@ -7,8 +7,8 @@ use Rattle.std.proofs.lemmas.List.Elements.{All-head, All-tail, All-push}
 use Rattle.evaluation.specs.declared.note.Note.{Note}
 use Rattle.evaluation.specs.declared.reading.Reading.{Reading}
 use Rattle.evaluation.specs.Short.{note_of}
-use Rattle.rerun_records.specs.Same.{same_note}
-use Rattle.rerun_records.proofs.Same.{note_is}
+use Rattle.record_theory.specs.Same.{same_note}
+use Rattle.record_theory.proofs.Same.{note_is}
 use Rattle.positions.specs.Values.{once, once_behind}
 use Rattle.layers.proofs.Marks.{still_once}
 

@@ -4,7 +4,7 @@ use denote.Param.Send.{IsSend, sendable}
 use Rattle.std.proofs.Crossing.{crosses}
 use Rattle.evaluation.proofs.notes.Notes.TheSendSync as notes
 use Rattle.hypermaps.proofs.Hypermap.TheSendSync as hypermaps
-use Rattle.rerun_records.proofs.Crosses.{readings_send, record_send}
+use Rattle.instance_records.proofs.Sharing.{readings_send, record_send}
 use Rattle.view_pool.specs.declared.view.View as View
 use Rattle.layers.proofs.recording.Opened.TheSendSync as openings
 use Rattle.layers.specs.contracts.layer.Layer as Layer

@@ -10,9 +10,9 @@ use Rattle.evaluation.specs.declared.note.Note.TheVariants as n
 use Rattle.evaluation.specs.declared.reading.Reading.{Reading}
 use Rattle.evaluation.specs.Short.{note_of}
 use Rattle.evaluation.specs.contracts.note.NotePartialEq.TheImpl as notes
-use Rattle.rerun_records.specs.Readings.{all_of}
-use Rattle.rerun_records.specs.Same.{same_note}
-use Rattle.rerun_records.proofs.Same.{derived_same}
+use Rattle.instance_records.specs.Readings.{all_of}
+use Rattle.record_theory.specs.Same.{same_note}
+use Rattle.record_theory.proofs.Same.{derived_same}
 use Rattle.positions.specs.Values.{once, once_behind, put_note}
 
 module _ (eq : Note → Note → Bool) (same : (a b : Note) → eq a b ≡ same_note a b) where

@@ -6,16 +6,16 @@ use Rattle.std.proofs.lemmas.List.Elements.{All-append, All-push}
 use Rattle.std.proofs.lemmas.Grind.{common_steps}
 use Rattle.meaning.specs.Tree.{Name}
 use Rattle.monoid_laws.specs.declared.Kind.TheVariants as k
-use Rattle.rerun_records.specs.Record.{PlainRecord}
+use Rattle.record_theory.specs.Record.{PlainRecord}
 use Rattle.monoid_laws.specs.declared.Kind.{Kind}
 use Rattle.monoid_laws.specs.Worth.{Worth}
 use Rattle.monoid_laws.specs.Kinds.{identity_of, AreWorths}
-use Rattle.rerun_records.specs.Named.{IsValueAt, AreValuesFrom, HasValuesIfAnswers, HaveValues}
+use Rattle.record_theory.specs.Named.{IsValueAt, AreValuesFrom, HasValuesIfAnswers, HaveValues}
 use Rattle.positions.specs.Layers.{PlainLayer}
 use Rattle.positions.specs.Values.{same_worth}
 use Rattle.positions.specs.Tallies.{PlainOpened, PlainTally, closing, closing_by, record_by, touched_from, entries_from}
 use Rattle.layers.specs.Recordings.{touched_at, entry_of, found_entry}
-use Rattle.rerun_records.proofs.Absorbed.{each, values_lower}
+use Rattle.record_theory.proofs.Absorbed.{each, values_lower}
 
 -- ---- the values of reducers
 

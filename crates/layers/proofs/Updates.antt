@@ -11,7 +11,7 @@ use Rattle.monoid_laws.proofs.Rows.{AreWorths-at}
 use Rattle.hypermaps.specs.Layer.{IsAt}
 use Rattle.positions.specs.Layers.{PlainLayer, updating, updated_by}
 use Rattle.layers.specs.Updates.{is_list, IsIdentity}
-use Rattle.rerun_records.proofs.Absorbed.{each}
+use Rattle.record_theory.proofs.Absorbed.{each}
 
 -- the value of a reducer that there is
 abbrev value_at : List Worth → ℕ → Worth

@@ -6,7 +6,7 @@ use Rattle.std.proofs.Math.Seq.{take-length}
 use Rattle.monoid_laws.specs.declared.Kind.{Kind}
 use Rattle.monoid_laws.specs.Worth.{Worth}
 use Rattle.monoid_laws.specs.Kinds.{AreWorths}
-use Rattle.rerun_records.proofs.Absorbed.{each}
+use Rattle.record_theory.proofs.Absorbed.{each}
 use Rattle.hypermaps.specs.Layer.{IsAt}
 
 pub read_in : (cs : List Kind) (ws : List Worth) (r : ℕ) (w : Worth) → AreWorths cs ws → r < length cs → IsAt ws r w → slice_get ws r ≡ Some w

@@ -4,8 +4,8 @@ use Rattle.monoid_laws.specs.declared.Kind.{Kind}
 use Rattle.monoid_laws.specs.Worth.{Worth}
 use Rattle.monoid_laws.specs.Kinds.{operate_all, identities}
 use Rattle.positions.specs.Layers.{PlainLayer}
-use Rattle.rerun_records.specs.Named.{HaveValues, filled}
-use Rattle.rerun_records.specs.Record.{PlainRecord}
+use Rattle.record_theory.specs.Named.{HaveValues, filled}
+use Rattle.record_theory.specs.Record.{PlainRecord}
 
 -- the values of all reducers, with those of some behind them
 abbrev pub combined_with : List (ℕ × Worth) → List Kind → List Worth → List Worth

@@ -6,7 +6,7 @@ use Rattle.monoid_laws.specs.declared.Kind.{Kind}
 use Rattle.monoid_laws.specs.Kinds.{identity_of}
 use Rattle.meaning.specs.Elision.{depth_limit}
 use Rattle.evaluation.specs.declared.note.Note.{Note}
-use Rattle.rerun_records.specs.Record.{PlainRecord}
+use Rattle.record_theory.specs.Record.{PlainRecord}
 use Rattle.positions.specs.Layers.{PlainLayer, kept_reads}
 use Rattle.positions.specs.Values.{same_worth}
 use Rattle.positions.specs.Tallies.{PlainOpened, touched_from, entries_from}

@@ -1,18 +1,18 @@
 // A layer takes over what a record has, or what a layer has that becomes a record.
 ghost use Rattle.std.specs.Prelude.{◌≡◌, ◌<◌, ◌++◌, OnErr, OnOk, All, map, slice_set, vec_len, vec_capacity, true};
 ghost use Rattle.monoid_laws.specs.Kinds.{IsMonoid};
-ghost use Rattle.rerun_records.specs.Record.{touched};
-ghost use Rattle.rerun_records.specs.Named.{AreValuesFrom};
-ghost use Rattle.rerun_records.specs.Readings.{all_of};
+ghost use Rattle.record_theory.specs.Record.{touched};
+ghost use Rattle.record_theory.specs.Named.{AreValuesFrom};
+ghost use Rattle.instance_records.specs.Readings.{all_of};
 ghost use Rattle.positions.specs.Layers.{absorbing, covered, flagged, kept_reads};
 ghost use Rattle.layers.specs.Folds.{HasSameProduct, IsSameButWorths, combined_with};
 
 use crate::joining::flag_all;
 use crate::layer::Layer;
 use hypermaps::Hypermap;
+use instance_records::readings::Readings;
+use instance_records::record::Record;
 use monoid_laws::Val;
-use rerun_records::readings::Readings;
-use rerun_records::record::Record;
 use std::alloc::{AllocError, Global};
 use view_pool::View;
 

@@ -3,16 +3,16 @@ ghost use Rattle.std.specs.Prelude.{◌≡◌, ◌++◌, ◌<◌, IfOk, length, 
 ghost use Rattle.monoid_laws.specs.Worth.{Worth};
 ghost use Rattle.monoid_laws.specs.Kinds.{meaning};
 ghost use Rattle.hypermaps.specs.Layer.{IsAt};
-ghost use Rattle.rerun_records.specs.Named.{AreValuesFrom};
-ghost use Rattle.rerun_records.specs.Record.{touched};
-ghost use Rattle.rerun_records.specs.ShortLists.{items_in};
+ghost use Rattle.record_theory.specs.Named.{AreValuesFrom};
+ghost use Rattle.record_theory.specs.Record.{touched};
+ghost use Rattle.instance_records.specs.ShortLists.{items_in};
 ghost use Rattle.positions.specs.Tallies.{touched_from};
 ghost use Rattle.layers.specs.Recordings.{touched_at};
 
 use crate::identities::is_identity;
 use hypermaps::Hypermap;
+use instance_records::short_list::ShortList;
 use monoid_laws::{Kind, Val};
-use rerun_records::short_list::ShortList;
 use std::alloc::{AllocError, Global};
 use view_pool::View;
 

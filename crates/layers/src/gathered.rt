@@ -1,10 +1,10 @@
 // Values with their reducers' numbers, as they are gathered for a record.
 ghost use Rattle.std.specs.Prelude.{◌≡◌, ◌++◌, ◌∷◌, [], OnOk, is_none, true, false};
-ghost use Rattle.rerun_records.specs.ShortLists.{items_in};
+ghost use Rattle.instance_records.specs.ShortLists.{items_in};
 ghost use Rattle.layers.specs.Gatherings.{gathered_in};
 
+use instance_records::short_list::ShortList;
 use monoid_laws::Val;
-use rerun_records::short_list::ShortList;
 use std::alloc::{AllocError, Global};
 use std::mem;
 

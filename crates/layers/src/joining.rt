@@ -1,12 +1,12 @@
 // A layer takes over what the right neighbour's layer has noted.
 ghost use Rattle.std.specs.Prelude.{◌≡◌, ◌≤◌, ◌+◌, ◌++◌, ◌||◌, All, OnOk, OnErr, vec_len, vec_capacity};
 ghost use Rattle.monoid_laws.specs.Kinds.{IsMonoid, operate_all};
-ghost use Rattle.rerun_records.specs.Readings.{all_of};
+ghost use Rattle.instance_records.specs.Readings.{all_of};
 ghost use Rattle.positions.specs.Layers.{either, multiplied};
 ghost use Rattle.layers.specs.Folds.{flag_at};
 
 use crate::layer::Layer;
-use rerun_records::readings::Readings;
+use instance_records::readings::Readings;
 use std::alloc::AllocError;
 use view_pool::View;
 

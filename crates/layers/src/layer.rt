@@ -18,9 +18,9 @@ use evaluation::unnoted;
 use evaluation::values::{two_values, value, values};
 use hypermaps::Hypermap;
 use input_tables::Tables;
+use instance_records::readings::Readings;
 use linked_program::code::Expression;
 use monoid_laws::{Kind, Val};
-use rerun_records::readings::Readings;
 use std::alloc::{AllocError, Global};
 use std::marker::Model;
 use view_pool::{Kit, View};
@@ -42,7 +42,7 @@ pub struct Layer<V: View = Box<dyn View>> {
 }
 
 impl<V: View> Model for Layer<V> {
-    ghost use Rattle.rerun_records.specs.Readings.{all_of};
+    ghost use Rattle.instance_records.specs.Readings.{all_of};
     ghost use Rattle.positions.specs.Layers.{PlainLayer};
 
     ghost Value = { PlainLayer };

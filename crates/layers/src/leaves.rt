@@ -16,10 +16,10 @@ use crate::layer::{DEEPEST, Layer};
 use crate::recording::{Opened, are_of_two_columns, only_up, two_reads};
 use evaluation::reading::Reading;
 use hypermaps::Hypermap;
+use instance_records::record::Record;
+use instance_records::short_list::ShortList;
 use linked_program::checked::Checked;
 use monoid_laws::{Kind, Val};
-use rerun_records::record::Record;
-use rerun_records::short_list::ShortList;
 use std::alloc::AllocError;
 use view_pool::View;
 

@@ -6,11 +6,11 @@ ghost use Rattle.monoid_laws.specs.Worth.{Worth};
 ghost use Rattle.monoid_laws.specs.Kinds.{meaning};
 ghost use Rattle.hypermaps.specs.Layer.{IsAt};
 ghost use Rattle.evaluation.specs.Short.{note_of};
-ghost use Rattle.rerun_records.specs.Record.{touched};
-ghost use Rattle.rerun_records.specs.Named.{AreValuesFrom};
-ghost use Rattle.rerun_records.specs.Readings.{all_of};
-ghost use Rattle.rerun_records.specs.ShortLists.{items_in};
-ghost use Rattle.rerun_records.specs.Same.{same_note};
+ghost use Rattle.record_theory.specs.Record.{touched};
+ghost use Rattle.record_theory.specs.Named.{AreValuesFrom};
+ghost use Rattle.instance_records.specs.Readings.{all_of};
+ghost use Rattle.instance_records.specs.ShortLists.{items_in};
+ghost use Rattle.record_theory.specs.Same.{same_note};
 ghost use Rattle.positions.specs.Layers.{kept_reads as kept_reads_of};
 ghost use Rattle.positions.specs.Values.{once, put_note};
 ghost use Rattle.positions.specs.Tallies.{touched_from, entries_from};
@@ -27,11 +27,11 @@ use evaluation::notes::Notes;
 use evaluation::reading::{Reading, readings};
 use hypermaps::Hypermap;
 use indexmap::IndexSet;
+use instance_records::readings::Readings;
+use instance_records::record::Record;
+use instance_records::short_list::ShortList;
 use linked_program::checked::Checked;
 use monoid_laws::{Kind, Val};
-use rerun_records::readings::Readings;
-use rerun_records::record::Record;
-use rerun_records::short_list::ShortList;
 use std::alloc::{AllocError, Global};
 use std::marker::Model;
 use view_pool::View;
@@ -48,7 +48,7 @@ pub struct Opened {
 
 impl Model for Opened {
     ghost use Rattle.positions.specs.Tallies.{PlainOpened};
-    ghost use Rattle.rerun_records.specs.ShortLists.{items_in};
+    ghost use Rattle.instance_records.specs.ShortLists.{items_in};
 
     ghost Value = { PlainOpened };
 
@@ -112,8 +112,8 @@ pub(crate) struct Recording {
 
 impl Model for Recording {
     ghost use Rattle.std.specs.Prelude.{map};
-    ghost use Rattle.rerun_records.specs.Record.{touched};
-    ghost use Rattle.rerun_records.specs.ShortLists.{items_in};
+    ghost use Rattle.record_theory.specs.Record.{touched};
+    ghost use Rattle.instance_records.specs.ShortLists.{items_in};
     ghost use Rattle.layers.specs.Recordings.{PlainRecording};
 
     ghost Value = { PlainRecording };
@@ -475,7 +475,7 @@ fn is_among(seen: &[Reading], reading: &Reading) -> bool
 }
 
 /// Whether two readings are the same.
-#[tactic(auto, using(rerun_records::proofs::Same::derived_same))]
+#[tactic(auto, using(record_theory::proofs::Same::derived_same))]
 fn is_same(left: &Reading, right: &Reading) -> bool
     ensures same { result ≡ same_note (note_of left.now) (note_of right.now) }
 {

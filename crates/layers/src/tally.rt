@@ -1,7 +1,7 @@
 //! What a strand has counted and recorded of memo instances.
 ghost use Rattle.std.specs.Prelude.{◌≡◌, ◌∷◌, [], suc, ◌+◌, IfOk, OnErr, OnOk, All, length};
 ghost use Rattle.monoid_laws.specs.Kinds.{IsMonoid, meaning};
-ghost use Rattle.rerun_records.specs.Named.{AreValuesFrom, HaveValues};
+ghost use Rattle.record_theory.specs.Named.{AreValuesFrom, HaveValues};
 ghost use Rattle.positions.specs.Layers.{multiplied, covered, absorbing, kept_reads};
 ghost use Rattle.positions.specs.Tallies.{no_tally, passing, answering, opening, is_own, closing, tallies_joined, touched_from, entries_from};
 ghost use Rattle.layers.specs.Folds.{IsSameButWorths, HasSameProduct, BothHaveValues};
@@ -11,9 +11,9 @@ use crate::layer::Layer;
 use crate::leaves::{Leaf, are_touched, record_of_two};
 use crate::pieces::Pieces;
 use crate::recording::Opened;
+use instance_records::record::Record;
 use linked_program::checked::Checked;
 use monoid_laws::Val;
-use rerun_records::record::Record;
 use std::alloc::{AllocError, Global};
 use std::marker::Model;
 use view_pool::View;

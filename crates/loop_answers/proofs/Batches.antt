@@ -6,16 +6,16 @@ use Rattle.monoid_laws.specs.Kinds.{AreWorths, operate_all, identities}
 use Rattle.monoid_laws.proofs.Rows.{operate_all_right, AreWorths-identities}
 use Rattle.evaluation.specs.declared.slot.Slot.{Slot}
 use Rattle.rerun_records.specs.declared.batch.Batch.{Batch}
-use Rattle.rerun_records.specs.Record.{PlainRecord}
-use Rattle.rerun_records.specs.Named.{filled}
-use Rattle.rerun_records.specs.Sums.{IsSumOf, arguments_of_last}
+use Rattle.record_theory.specs.Record.{PlainRecord}
+use Rattle.record_theory.specs.Named.{filled}
+use Rattle.record_theory.specs.Sums.{IsSumOf, arguments_of_last}
 use Rattle.positions.specs.declared.work.Loop.{Loop}
 use Rattle.positions.specs.Setting.{Setting}
 use Rattle.positions.specs.Activations.{PlainActivation}
 use Rattle.positions.specs.Code.{PlainLoop, loop_at}
 use Rattle.positions.specs.Layers.{PlainLayer, absorbing}
 use Rattle.positions.specs.Strands.{PlainStrand}
-use Rattle.rerun_records.proofs.Absorbed.{filled_right}
+use Rattle.record_theory.proofs.Absorbed.{filled_right}
 use Rattle.answered_loops.specs.Answered.{AreAnswers, absorbed, answered_more, with_answers}
 use Rattle.answered_loops.proofs.Sums.{absorbing_sum}
 use Rattle.answered_loops.proofs.Halves.{absorbed_append, last_append, answers_behind}

@@ -3,8 +3,8 @@ use Rattle.std.proofs.Common.{◌≡◌, ℕ, suc, ◌+◌, ◌-◌, ◌<◌, �
 use Rattle.std.proofs.lemmas.List.{drop_more, drop_all, get_or-map, length-map}
 use Rattle.std.proofs.lemmas.List.Elements.{All-get_or}
 use Rattle.rerun_records.specs.declared.batch.Batch.{Batch}
-use Rattle.rerun_records.specs.Record.{PlainRecord}
-use Rattle.rerun_records.specs.Sums.{arguments_of_last}
+use Rattle.record_theory.specs.Record.{PlainRecord}
+use Rattle.record_theory.specs.Sums.{arguments_of_last}
 use Rattle.positions.specs.Layers.{PlainLayer, absorbing}
 use Rattle.positions.specs.Tallies.{PlainTally}
 use Rattle.answered_loops.specs.Answered.{absorbed, answered_more}

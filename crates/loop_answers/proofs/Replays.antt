@@ -13,11 +13,11 @@ use Rattle.evaluation.specs.declared.slot.Slot.{Slot}
 use Rattle.evaluation.specs.declared.slot.Slot.TheVariants.{Has}
 use Rattle.evaluation.specs.Values.{NumberedOut, values_at, pure}
 use Rattle.rerun_records.specs.declared.batch.Batch.{Batch}
-use Rattle.rerun_records.specs.Record.{PlainRecord}
-use Rattle.rerun_records.specs.Named.{HaveValues}
-use Rattle.rerun_records.specs.Validity.{valid_at}
-use Rattle.rerun_records.specs.Batches.{AreValidFrom, IsBatch}
-use Rattle.rerun_records.proofs.Singles.{sum_of_one, valid_values}
+use Rattle.record_theory.specs.Record.{PlainRecord}
+use Rattle.record_theory.specs.Named.{HaveValues}
+use Rattle.record_theory.specs.Validity.{valid_at}
+use Rattle.record_theory.specs.Batches.{AreValidFrom, IsBatch}
+use Rattle.record_theory.proofs.Singles.{sum_of_one, valid_values}
 use Rattle.positions.specs.declared.work.Loop.{Loop}
 use Rattle.positions.specs.declared.work.Share.{Share}
 use Rattle.positions.specs.declared.work.Work.TheVariants.{Halves, Second, Turns}

@@ -8,9 +8,9 @@ use Rattle.evaluation.specs.declared.slot.Slot.{Slot}
 use Rattle.evaluation.specs.declared.slot.Slot.TheVariants.{Has}
 use Rattle.evaluation.specs.Values.{values_at, pure}
 use Rattle.rerun_records.specs.declared.batch.Batch.{Batch}
-use Rattle.rerun_records.specs.Record.{PlainRecord}
-use Rattle.rerun_records.specs.Named.{AreValuesFrom}
-use Rattle.rerun_records.specs.Sums.{IsSumOf, arguments_of_last}
+use Rattle.record_theory.specs.Record.{PlainRecord}
+use Rattle.record_theory.specs.Named.{AreValuesFrom}
+use Rattle.record_theory.specs.Sums.{IsSumOf, arguments_of_last}
 use Rattle.positions.specs.declared.work.Loop.{Loop}
 use Rattle.positions.specs.declared.work.Share.{Share}
 use Rattle.positions.specs.declared.work.Work.TheVariants.{Second}

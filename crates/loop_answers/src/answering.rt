@@ -1,7 +1,7 @@
 //! Where the topmost instance of a strand is a loop's over a memo procedure: whether records answer its iterations, and which.
 ghost use Rattle.std.specs.Prelude.{◌≡◌, ◌≤◌, ◌==◌, ◌||◌, nat_le, ℕ, true, false, length, All, OnErr, OnOk};
 ghost use Rattle.monoid_laws.specs.Kinds.{AreWorths, IsMonoid};
-ghost use Rattle.rerun_records.specs.Named.{HaveValues};
+ghost use Rattle.record_theory.specs.Named.{HaveValues};
 ghost use Rattle.positions.specs.Activations.{ShareFits};
 ghost use Rattle.positions.specs.Tallies.{is_own};
 ghost use Rattle.activations.specs.Given.{lent};

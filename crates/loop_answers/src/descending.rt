@@ -2,7 +2,7 @@
 //! the halves in it.
 ghost use Rattle.std.specs.Prelude.{◌≡◌, ◌/◌, ◌≤◌, take, drop, length, true, false, None, All, OnErr, OnOk, IfOk, IfSome};
 ghost use Rattle.monoid_laws.specs.Kinds.{IsMonoid};
-ghost use Rattle.rerun_records.specs.Named.{HaveValues};
+ghost use Rattle.record_theory.specs.Named.{HaveValues};
 ghost use Rattle.activations.specs.Given.{lent};
 ghost use Rattle.answered_loops.specs.Answered.{is_by_turns};
 ghost use Rattle.loop_answers.specs.Ahead.{IsAnsweredAhead, IsSameButAnswers, IsRefusedAhead};

@@ -1,7 +1,7 @@
 //! What batches that answer a loop's iterations leave of a strand.
 ghost use Rattle.std.specs.Prelude.{◌≡◌, ◌+◌, ◌-◌, ◌≤◌, ◌<◌, ◌^◌, length, take, All, OnErr, OnOk, IfOk, IfSome};
 ghost use Rattle.monoid_laws.specs.Kinds.{IsMonoid};
-ghost use Rattle.rerun_records.specs.Sums.{arguments_of_last};
+ghost use Rattle.record_theory.specs.Sums.{arguments_of_last};
 ghost use Rattle.positions.specs.Activations.{ShareFits, WorkFits};
 ghost use Rattle.answered_loops.specs.Answered.{absorbed, answered_more, iteration_depth, turned_to, halved_to};
 ghost use Rattle.loop_answers.specs.Ahead.{called_more, DoneBy, IsSameButAnswers};

@@ -10,9 +10,9 @@ use Rattle.trail_theory.specs.Order.{Every}
 use Rattle.trail_theory.specs.OpenLayers.{IsNewRecord}
 use Rattle.strand_theory.specs.Recorded.{AllRecordedBut}
 use Rattle.linked_program.specs.TableNames.{Columned}
-use Rattle.rerun_records.specs.Record.{PlainRecord}
-use Rattle.rerun_records.specs.Commits.{put_records}
-use Rattle.rerun_records.specs.Named.{AreRecords}
+use Rattle.record_theory.specs.Record.{PlainRecord}
+use Rattle.record_theory.specs.Commits.{put_records}
+use Rattle.record_theory.specs.Named.{AreRecords}
 use Rattle.positions.specs.Setting.{Setting}
 use Rattle.positions.specs.Tallies.{PlainTally}
 

@@ -15,8 +15,8 @@ use Rattle.meaning.specs.Layers.{Notes, noted_one, noted_top, take_top, notes_of
 use Rattle.trail_theory.specs.Unflagged.{unflagged_under}
 use Rattle.linked_program.specs.Linked.{linked_body}
 use Rattle.linked_program.specs.CodeView.{memo_of}
-use Rattle.rerun_records.specs.Record.{PlainRecord}
-use Rattle.rerun_records.specs.Named.{IsRecord, IsAnswer}
+use Rattle.record_theory.specs.Record.{PlainRecord}
+use Rattle.record_theory.specs.Named.{IsRecord, IsAnswer}
 use Rattle.positions.specs.declared.phase.Phase.{Phase}
 use Rattle.positions.specs.declared.phase.Phase.TheVariants.{Entering, Running, Leaving}
 use Rattle.positions.specs.declared.start.Start.{Start}

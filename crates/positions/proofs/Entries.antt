@@ -12,12 +12,12 @@ use Rattle.meaning.specs.Tables.{index_of}
 use Rattle.linked_program.specs.Checked.{names_in}
 use Rattle.linked_program.specs.Linked.{procedure_number}
 use Rattle.linked_program.specs.Procedures.{procedures}
-use Rattle.rerun_records.specs.Named.{SameMembers, IsInOrder, number_of, numbered_entry}
+use Rattle.record_theory.specs.Named.{SameMembers, IsInOrder, number_of, numbered_entry}
 use Rattle.trail_theory.specs.Order.{In}
 use Rattle.positions.specs.Layers.{flagged}
 use Rattle.positions.specs.Tallies.{entries_from}
 use Rattle.positions.proofs.Members.{there, back, same_members, in_map, made_from, map_map}
-use Rattle.rerun_records.proofs.Same.{first_is, second_is}
+use Rattle.record_theory.proofs.Same.{first_is, second_is}
 
 -- ---- flags
 

@@ -18,7 +18,7 @@ use Rattle.linked_program.specs.Initials.{PlainInitial, AreUpdatesBy}
 use Rattle.evaluation.specs.declared.note.Note.{Note}
 use Rattle.evaluation.specs.Numbers.{numbered, readings, OnlyReads}
 use Rattle.positions.specs.Setting.{Setting, IsLinked}
-use Rattle.rerun_records.specs.Named.{SameMembers}
+use Rattle.record_theory.specs.Named.{SameMembers}
 use Rattle.positions.specs.Code.{may_record}
 use Rattle.positions.specs.Layers.{PlainLayer, blank, flagged, kept_behind, noting, entering, updated_by, updating, begun_by, begun, lowest}
 use Rattle.positions.specs.Stands.{IsNotes, AreNotes}

@@ -9,12 +9,12 @@ use Rattle.monoid_laws.specs.declared.Kind.{Kind}
 use Rattle.monoid_laws.specs.Worth.{Worth, number, items, best, line, amounts, element}
 use Rattle.monoid_laws.specs.Kinds.{identities, identity_of}
 use Rattle.evaluation.specs.declared.note.Note.{Note}
-use Rattle.rerun_records.specs.Named.{NameReducersFrom, SameMembers, filled}
+use Rattle.record_theory.specs.Named.{NameReducersFrom, SameMembers, filled}
 use Rattle.trail_theory.specs.Order.{In}
 use Rattle.trail_theory.proofs.Places.{in_append, in_left, in_right}
 use Rattle.positions.specs.Tallies.{touched_from}
-use Rattle.rerun_records.specs.Same.{same_note}
-use Rattle.rerun_records.proofs.Same.{first_is, second_is, number_is, integer_is, note_is}
+use Rattle.record_theory.specs.Same.{same_note}
+use Rattle.record_theory.proofs.Same.{first_is, second_is, number_is, integer_is, note_is}
 use Rattle.positions.specs.Values.{same_pair, same_best, same_worth, put_note, once_behind, once}
 use Rattle.positions.proofs.Members.{same_members}
 

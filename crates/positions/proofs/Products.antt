@@ -14,8 +14,8 @@ use Rattle.meaning.specs.Layers.{Notes, notes_of, closed_top}
 use Rattle.linked_program.specs.Procedures.{procedures}
 use Rattle.evaluation.specs.declared.note.Note.{Note}
 use Rattle.evaluation.specs.Numbers.{numbered}
-use Rattle.rerun_records.specs.Record.{PlainRecord}
-use Rattle.rerun_records.specs.Named.{SameMembers, IsRecord, filled, number_of, numbered_entry}
+use Rattle.record_theory.specs.Record.{PlainRecord}
+use Rattle.record_theory.specs.Named.{SameMembers, IsRecord, filled, number_of, numbered_entry}
 use Rattle.positions.specs.Setting.{Setting, IsLinked}
 use Rattle.positions.specs.Layers.{PlainLayer, either, flagged, multiplied, kept_reads, covered, absorbing, closed_onto, below_top}
 use Rattle.positions.specs.Values.{once}

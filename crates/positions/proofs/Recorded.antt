@@ -10,9 +10,9 @@ use Rattle.meaning.specs.SmallStep.{leaving}
 use Rattle.meaning.specs.Layers.{Notes}
 use Rattle.meaning.specs.Tallies as definitions
 use Rattle.meaning.specs.Tallies.{Opened, Tally, opened_all, passed_all, answered_one, closed_by, valid_record}
-use Rattle.rerun_records.specs.Record.{PlainRecord}
-use Rattle.rerun_records.specs.Named.{NameReducersFrom, SameMembers, IsRecord, AreRecords, IsAnswer, filled, number_of, numbered_entry}
-use Rattle.rerun_records.proofs.Lookups.{looks_up}
+use Rattle.record_theory.specs.Record.{PlainRecord}
+use Rattle.record_theory.specs.Named.{NameReducersFrom, SameMembers, IsRecord, AreRecords, IsAnswer, filled, number_of, numbered_entry}
+use Rattle.record_theory.proofs.Lookups.{looks_up}
 use Rattle.trail_theory.specs.Order.{Every}
 use Rattle.trail_theory.specs.OwnLayers.{is_top_by_length}
 use Rattle.monoid_laws.specs.Kinds.{identities}
@@ -22,7 +22,7 @@ use Rattle.positions.specs.Tallies.{PlainOpened, PlainTally, touched_from, entri
 use Rattle.positions.specs.Advance.{record_for}
 use Rattle.positions.specs.Stands.{IsNotes, IsOpened, AreOpened, IsTally}
 use Rattle.positions.specs.Simulation.{HoldNow}
-use Rattle.rerun_records.proofs.Same.{second_is}
+use Rattle.record_theory.proofs.Same.{second_is}
 use Rattle.positions.proofs.Once.{touched_is, touched_named}
 use Rattle.positions.proofs.Products.{kept_reads_are}
 use Rattle.positions.proofs.Entries.{entries_are}

@@ -5,8 +5,8 @@ use Rattle.monoid_laws.specs.Worth.{Worth}
 use Rattle.monoid_laws.specs.Kinds.{operate, operate_all, identities, element_of}
 use Rattle.linked_program.specs.Initials.{PlainInitial}
 use Rattle.evaluation.specs.declared.note.Note.{Note}
-use Rattle.rerun_records.specs.Record.{PlainRecord}
-use Rattle.rerun_records.specs.Named.{filled}
+use Rattle.record_theory.specs.Record.{PlainRecord}
+use Rattle.record_theory.specs.Named.{filled}
 use Rattle.positions.specs.Values.{once}
 
 -- whether readings are kept, the reducers' kinds and values, what was read, what the instances have read that were recorded or

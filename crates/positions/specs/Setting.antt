@@ -10,8 +10,8 @@ use Rattle.linked_program.specs.Procedures.{procedures}
 use Rattle.linked_program.specs.Linked.{kinds_of}
 use Rattle.linked_program.specs.CodeView.{AreCodesOf}
 use Rattle.linked_program.specs.Checked.{PlainChecked, revised_of}
-use Rattle.rerun_records.specs.Record.{PlainRecord}
-use Rattle.rerun_records.specs.Named.{AreRecords, IsInOrder}
+use Rattle.record_theory.specs.Record.{PlainRecord}
+use Rattle.record_theory.specs.Named.{AreRecords, IsInOrder}
 
 -- the names of the tables that the program was checked against with their columns, the program, its procedures' codes, its
 -- reducers' kinds, the tables, the records that may answer its memo instances, and what there is of earlier runs and for later

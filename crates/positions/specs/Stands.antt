@@ -31,7 +31,7 @@ use Rattle.positions.specs.Setting.{Setting}
 use Rattle.positions.specs.Activations.{PlainActivation, first_of}
 use Rattle.positions.specs.Code.{may_record, blocks_at, loop_at}
 use Rattle.positions.specs.Layers.{PlainLayer, flagged}
-use Rattle.rerun_records.specs.Named.{number_of, SameMembers, AreRecords}
+use Rattle.record_theory.specs.Named.{number_of, SameMembers, AreRecords}
 use Rattle.positions.specs.Tallies.{PlainOpened, PlainTally}
 use Rattle.positions.specs.Strands.{PlainStrand, PlainTask, shorter}
 

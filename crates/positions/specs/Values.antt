@@ -5,7 +5,7 @@ use Rattle.std.specs.Ordering.{int_eq}
 use Rattle.std.specs.Cmp.Lexicographic.{pointwise}
 use Rattle.monoid_laws.specs.Worth.{Worth, number, items, best, line, amounts, element}
 use Rattle.evaluation.specs.declared.note.Note.{Note}
-use Rattle.rerun_records.specs.Same.{same_note}
+use Rattle.record_theory.specs.Same.{same_note}
 
 abbrev pub same_pair : ℤ × ℤ → ℤ × ℤ → Bool
 same_pair a b = int_eq a.0 b.0 && int_eq a.1 b.1

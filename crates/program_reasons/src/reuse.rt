@@ -1,5 +1,5 @@
 // What is said of the memo instances of a run.
-ghost use Rattle.rerun_records.specs.InStep.{IsInStep};
+ghost use Rattle.record_theory.specs.InStep.{IsInStep};
 
 use input_tables::Tables;
 use linked_program::checked::Checked;

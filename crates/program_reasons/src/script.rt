@@ -1,6 +1,6 @@
 //! Explanations of what a session refuses, of its runs' faults and of what their memo instances come to, on a stream.
 
-ghost use Rattle.rerun_records.specs.InStep.{IsInStep};
+ghost use Rattle.record_theory.specs.InStep.{IsInStep};
 
 use crate::causes::explanation;
 use crate::reuse::{outcome_text, reuse_text};

@@ -14,16 +14,16 @@ use Rattle.meaning.specs.TreeView.{tree}
 use Rattle.linked_program.specs.Checked.{PlainChecked, names_in}
 use Rattle.linked_program.specs.Linked.{procedure_number}
 use Rattle.linked_program.specs.Procedures.{procedures}
-use Rattle.rerun_records.specs.Record.{PlainRecord, is_of, as_made}
-use Rattle.rerun_records.specs.Commits.{AreSingle}
-use Rattle.rerun_records.specs.Counts.{is_among, lapsed_count}
-use Rattle.rerun_records.specs.Named.{number_of, IsInOrder}
-use Rattle.rerun_records.specs.Numbers.{most_number}
-use Rattle.rerun_records.specs.Validity.{has_revision, is_revision}
+use Rattle.record_theory.specs.Record.{PlainRecord, is_of, as_made}
+use Rattle.record_theory.specs.Commits.{AreSingle}
+use Rattle.record_theory.specs.Counts.{is_among, lapsed_count}
+use Rattle.record_theory.specs.Named.{number_of, IsInOrder}
+use Rattle.record_numbers.specs.Stale.{most_number}
+use Rattle.record_theory.specs.Validity.{has_revision, is_revision}
 use Rattle.rerun_records.proofs.Finding.{find_as_made, found_there}
-use Rattle.rerun_records.proofs.InStep.{IsNumber, number_is, counted_at}
+use Rattle.record_theory.proofs.InStep.{IsNumber, number_is, counted_at}
 use Rattle.rerun_records.proofs.Leaves.{there_at}
-use Rattle.rerun_records.proofs.Members.{left_is, right_is}
+use Rattle.record_theory.proofs.Members.{left_is, right_is}
 use Rattle.record_index.specs.Counts.{same_revision, outdated_count}
 use Rattle.record_index.specs.Indexed.{PlainIndexed, is_within, IsIndexed, IsStale, record_for}
 

@@ -11,12 +11,11 @@ use Rattle.meaning.specs.Tables.{Tables, row_of, at_column, is_there}
 use Rattle.input_tables.specs.Edited.{rows_at, limit_at, sum_at}
 use Rattle.evaluation.specs.declared.note.Note.{Note}
 use Rattle.evaluation.specs.declared.note.Note.TheVariants.{Cell, Has, Limit, Sum}
-use Rattle.rerun_records.specs.Same.{same_flag, same_note}
-use Rattle.rerun_records.specs.Validity.{note_agrees}
-use Rattle.rerun_records.specs.InStep.{rests_on, IsSameBut}
-use Rattle.rerun_records.specs.Blocks.{is_apart}
-use Rattle.rerun_records.specs.Counts.{is_among}
-use Rattle.rerun_records.proofs.Members.{left_is, right_is}
+use Rattle.record_theory.specs.Same.{same_flag, same_note}
+use Rattle.record_theory.specs.Validity.{note_agrees}
+use Rattle.record_theory.specs.InStep.{rests_on, IsSameBut, is_apart}
+use Rattle.record_theory.specs.Counts.{is_among}
+use Rattle.record_theory.proofs.Members.{left_is, right_is}
 use Rattle.record_index.specs.Befores.{PlainBefore, IsBefore, total_at, cells_only, row_only, presence_only, limit_only, sums_only, held_only}
 
 -- ---- tests

@@ -7,10 +7,10 @@ use Rattle.meaning.specs.Tree.{Name}
 use Rattle.meaning.specs.Every.{every}
 use Rattle.meaning.specs.Tables.{Tables}
 use Rattle.input_tables.specs.Edited.{columns_at}
-use Rattle.rerun_records.specs.Record.{PlainRecord, same_instance}
-use Rattle.rerun_records.specs.Commits.{put_record, put_records}
-use Rattle.rerun_records.specs.Validity.{is_revision, has_revision}
-use Rattle.rerun_records.proofs.Members.{left_is, right_is, every_weaker}
+use Rattle.record_theory.specs.Record.{PlainRecord, same_instance}
+use Rattle.record_theory.specs.Commits.{put_record, put_records}
+use Rattle.record_theory.specs.Validity.{is_revision, has_revision}
+use Rattle.record_theory.proofs.Members.{left_is, right_is, every_weaker}
 use Rattle.record_index.specs.Befores.{PlainNoted, HasRoomFor}
 use Rattle.record_index.specs.Indexed.{is_within, AreTold, are_current, EnteredNow}
 

@@ -2,8 +2,8 @@
 use Rattle.std.proofs.Common.{◌≡◌, ℕ, suc, ◌+◌, Bool, true, false, not, List, [], ◌∷◌, refl, sym, ap, ◌∙◌, subst, arith}
 use Rattle.std.specs.Prelude.{◌&&◌, ◌||◌}
 use Rattle.std.specs.List.{AllByRecursion, IsDistinct}
-use Rattle.rerun_records.specs.Counts.{is_among, count_once, how_many}
-use Rattle.rerun_records.proofs.Counts.{more}
+use Rattle.record_theory.specs.Counts.{is_among, count_once, how_many}
+use Rattle.record_theory.proofs.Counts.{more}
 
 -- one more that was counted before changes nothing
 counted_before : (a b : Bool) (i j k l : ℕ) → i + j ≡ k + l → more (b && false) i + j ≡ more (a && false) k + l

@@ -5,11 +5,10 @@ use Rattle.meaning.specs.Tree.{Name}
 use Rattle.meaning.specs.Every.{every}
 use Rattle.meaning.specs.Tables.{Tables}
 use Rattle.evaluation.specs.declared.note.Note.{Note}
-use Rattle.rerun_records.specs.Record.{PlainRecord, as_made}
-use Rattle.rerun_records.specs.Blocks.{is_apart}
-use Rattle.rerun_records.specs.InStep.{IsInStep, IsSameBut}
-use Rattle.rerun_records.specs.Numbers.{told_by}
-use Rattle.rerun_records.proofs.NodeNotes.{every_append}
+use Rattle.record_theory.specs.Record.{PlainRecord, as_made}
+use Rattle.record_theory.specs.InStep.{is_apart, IsInStep, IsSameBut}
+use Rattle.record_theory.specs.Numbers.{told_by}
+use Rattle.record_theory.proofs.Members.{every_append}
 use Rattle.record_index.specs.Befores.{PlainBefore, IsBefore, held_only, now_of, sums_from, HasRoomFor}
 use Rattle.record_index.specs.Indexed.{PlainIndexed, IsIndexed, IsNoted, HaveSameColumns, AreTold}
 use Rattle.record_index.proofs.Befores.{held_is, held_distinct, held_rests, same_but_back}

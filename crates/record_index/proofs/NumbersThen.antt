@@ -6,17 +6,18 @@ use Rattle.std.proofs.lemmas.Bool.Decides.{Decides-eqb, leb_tells}
 use Rattle.meaning.specs.Every.{every}
 use Rattle.meaning.specs.Tables.{Tables}
 use Rattle.evaluation.specs.declared.note.Note.{Note}
-use Rattle.rerun_records.specs.Counts.{is_among, how_many, has_lapsed, lapsed_count}
-use Rattle.rerun_records.specs.InStep.{IsInStep}
-use Rattle.rerun_records.specs.Numbers.{most_number, number_then, told_by, is_counted}
-use Rattle.rerun_records.specs.Record.{PlainRecord}
-use Rattle.rerun_records.specs.Same.{same_note}
-use Rattle.rerun_records.specs.Validity.{note_agrees}
-use Rattle.rerun_records.proofs.Counts.{count_few}
-use Rattle.rerun_records.proofs.InStep.{IsNumber, number_is, is_number}
-use Rattle.rerun_records.proofs.Members.{left_is, right_is, both}
-use Rattle.rerun_records.proofs.NumbersThen.{note_itself}
-use Rattle.rerun_records.proofs.Same.{note_is}
+use Rattle.record_theory.specs.Counts.{is_among, how_many, has_lapsed, lapsed_count}
+use Rattle.record_theory.specs.InStep.{IsInStep}
+use Rattle.record_numbers.specs.Stale.{most_number}
+use Rattle.record_theory.specs.Numbers.{number_then, told_by, is_counted}
+use Rattle.record_theory.specs.Record.{PlainRecord}
+use Rattle.record_theory.specs.Same.{same_note}
+use Rattle.record_theory.specs.Validity.{note_agrees}
+use Rattle.record_theory.proofs.Counts.{count_few}
+use Rattle.record_theory.proofs.InStep.{IsNumber, number_is, is_number}
+use Rattle.record_theory.proofs.Members.{left_is, right_is, both}
+use Rattle.record_theory.proofs.NumbersThen.{note_itself}
+use Rattle.record_theory.proofs.Same.{note_is}
 use Rattle.record_index.proofs.Counts.{count_changed}
 
 -- ---- one number

@@ -6,7 +6,7 @@ use Rattle.meaning.specs.Records.{same_number}
 use Rattle.input_tables.specs.Edited.{rows_at, columns_at, limit_at, sum_at}
 use Rattle.evaluation.specs.declared.note.Note.{Note}
 use Rattle.evaluation.specs.declared.note.Note.TheVariants.{Cell, Has, Limit, Sum}
-use Rattle.rerun_records.specs.Same.{same_flag}
+use Rattle.record_theory.specs.Same.{same_flag}
 
 -- a row of a table, given by the table's number: its values where it is there, the table's limit, and the sums of its columns
 pub record PlainBefore : Type 0 where

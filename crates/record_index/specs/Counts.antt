@@ -2,9 +2,9 @@
 use Rattle.std.specs.Prelude.{◌+◌, ℕ, nat_eq, Bool, not, ◌&&◌, List}
 use Rattle.meaning.specs.Tree.{Name}
 use Rattle.meaning.specs.Tables.{Tables}
-use Rattle.rerun_records.specs.Counts.{count_once, lapsed_count}
-use Rattle.rerun_records.specs.Record.{PlainRecord}
-use Rattle.rerun_records.specs.Validity.{has_revision}
+use Rattle.record_theory.specs.Counts.{count_once, lapsed_count}
+use Rattle.record_theory.specs.Record.{PlainRecord}
+use Rattle.record_theory.specs.Validity.{has_revision}
 
 abbrev pub same_revision : ℕ × ℕ → ℕ × ℕ → Bool
 same_revision e d = nat_eq e.0 d.0 && nat_eq e.1 d.1

@@ -8,11 +8,11 @@ use Rattle.meaning.specs.Tables.{Tables}
 use Rattle.meaning.specs.Records.{Key}
 use Rattle.linked_program.specs.Checked.{PlainChecked, names_in}
 use Rattle.input_tables.specs.Edited.{columns_at}
-use Rattle.rerun_records.specs.Record.{PlainRecord, is_of, as_made}
-use Rattle.rerun_records.specs.InStep.{IsInStep}
-use Rattle.rerun_records.specs.Numbers.{most_number}
-use Rattle.rerun_records.specs.Named.{number_of}
-use Rattle.rerun_records.specs.Validity.{has_revision}
+use Rattle.record_theory.specs.Record.{PlainRecord, is_of, as_made}
+use Rattle.record_theory.specs.InStep.{IsInStep}
+use Rattle.record_numbers.specs.Stale.{most_number}
+use Rattle.record_theory.specs.Named.{number_of}
+use Rattle.record_theory.specs.Validity.{has_revision}
 use Rattle.record_index.specs.Counts.{stale_count}
 use Rattle.record_index.specs.Befores.{PlainBefore, IsBefore, HasRoomFor, no_row}
 

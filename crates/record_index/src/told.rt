@@ -3,8 +3,8 @@ ghost use Rattle.std.specs.Prelude.{◌≡◌, ◌≤◌, ◌<◌, ◌∷◌, []
 ghost use Rattle.meaning.specs.Tables.{index_of};
 ghost use Rattle.meaning.specs.declared.tree.Declaration.{Declaration as PlainDeclaration};
 ghost use Rattle.linked_program.specs.Checked.{names_in, numbers_in};
-ghost use Rattle.rerun_records.specs.Validity.{has_revision};
-ghost use Rattle.rerun_records.specs.Counts.{is_among};
+ghost use Rattle.record_theory.specs.Validity.{has_revision};
+ghost use Rattle.record_theory.specs.Counts.{is_among};
 ghost use Rattle.record_index.specs.Counts.{outdated_count, same_revision};
 ghost use Rattle.record_index.specs.Indexed.{IsLonger};
 ghost use Rattle.record_index.specs.Told.{AreFirst};

@@ -10,9 +10,9 @@ use Rattle.meaning.specs.Tables.{Tables}
 use Rattle.input_tables.specs.Edited.{cell_at, has_at, limit_at, sum_at}
 use Rattle.evaluation.specs.declared.note.Note.{Note}
 use Rattle.evaluation.specs.declared.note.Note.TheVariants as note
-use Rattle.rerun_records.specs.Record.{PlainRecord, is_of, as_made}
-use Rattle.rerun_records.specs.Validity.{has_revision, note_agrees, only_valid, record_holds}
-use Rattle.rerun_records.proofs.Members.{left_is, right_is}
+use Rattle.record_theory.specs.Record.{PlainRecord, is_of, as_made}
+use Rattle.record_theory.specs.Validity.{has_revision, note_agrees, only_valid, record_holds}
+use Rattle.record_theory.proofs.Members.{left_is, right_is}
 use Rattle.rerun_reasons.specs.Reasons.{cell_change, change_of, first_change, first_defined, or_deep, or_else, reason_by, reason_for}
 use Rattle.rerun_reasons.specs.Unanswered.{IsTooDeep}
 use Rattle.rerun_reasons.specs.declared.reason.Reason.{Reason}

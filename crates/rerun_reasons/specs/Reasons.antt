@@ -8,8 +8,8 @@ use Rattle.meaning.specs.Records.{same_bool}
 use Rattle.input_tables.specs.Edited.{cell_at, has_at, limit_at, sum_at}
 use Rattle.evaluation.specs.declared.note.Note.{Note}
 use Rattle.evaluation.specs.declared.note.Note.TheVariants as note
-use Rattle.rerun_records.specs.Record.{PlainRecord, is_of}
-use Rattle.rerun_records.specs.Validity.{has_revision}
+use Rattle.record_theory.specs.Record.{PlainRecord, is_of}
+use Rattle.record_theory.specs.Validity.{has_revision}
 use Rattle.rerun_reasons.specs.declared.reason.Reason.{Reason}
 use Rattle.rerun_reasons.specs.declared.reason.Reason.TheVariants as reason
 

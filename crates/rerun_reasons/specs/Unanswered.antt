@@ -4,8 +4,8 @@ use Rattle.std.specs.List.{find}
 use Rattle.meaning.specs.Tree.{Name}
 use Rattle.meaning.specs.Elision.{depth_limit}
 use Rattle.meaning.specs.Tables.{Tables}
-use Rattle.rerun_records.specs.Record.{PlainRecord, is_of}
-use Rattle.rerun_records.specs.Validity.{record_holds, valid_at}
+use Rattle.record_theory.specs.Record.{PlainRecord, is_of}
+use Rattle.record_theory.specs.Validity.{record_holds, valid_at}
 use Rattle.rerun_reasons.specs.Reasons.{reason_for}
 use Rattle.rerun_reasons.specs.declared.reason.Explained.{Explained}
 use Rattle.rerun_reasons.specs.declared.reason.Reason.TheVariants.{TooDeep}

@@ -1,6 +1,6 @@
 // Why a run's memo instances are executed, by a replay of the program.
 ghost use Rattle.std.specs.Prelude.{IfOk};
-ghost use Rattle.rerun_records.specs.InStep.{IsInStep};
+ghost use Rattle.record_theory.specs.InStep.{IsInStep};
 ghost use Rattle.rerun_reasons.specs.Unanswered.{AreExplained, AreUnanswered, IsExplained, IsUnanswered};
 
 use crate::reason::{Explained, Reasons};

@@ -1,6 +1,6 @@
 // What a replay finds.
 ghost use Rattle.std.specs.Prelude.{◌≡◌, [], None, IfOk};
-ghost use Rattle.rerun_records.specs.Validity.{valid_at};
+ghost use Rattle.record_theory.specs.Validity.{valid_at};
 ghost use Rattle.rerun_reasons.specs.Unanswered.{AreUnanswered};
 
 use crate::reason::Count;

@@ -2,8 +2,8 @@
 ghost use Rattle.std.specs.Prelude.{◌≡◌, IfOk, Some, option_copied};
 ghost use Rattle.std.specs.List.{find};
 ghost use Rattle.evaluation.specs.declared.note.Note.TheVariants as note;
-ghost use Rattle.rerun_records.specs.Record.{is_of};
-ghost use Rattle.rerun_records.specs.Validity.{has_revision};
+ghost use Rattle.record_theory.specs.Record.{is_of};
+ghost use Rattle.record_theory.specs.Validity.{has_revision};
 ghost use Rattle.rerun_reasons.specs.Reasons.{change_of, cell_change, first_change, first_defined, reason_by, reason_for};
 
 use crate::reason::Reason;
@@ -11,8 +11,8 @@ use crate::replay::Executed;
 use crate::setting::Setting;
 use evaluation::note::Note;
 use input_tables::Tables;
+use instance_records::record::Record;
 use linked_program::checked::Checked;
-use rerun_records::record::Record;
 use std::alloc::AllocError;
 
 /// Why no record answers an instance, where none does. Its record is looked for among all: this is asked for few instances.

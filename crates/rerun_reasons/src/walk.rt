@@ -1,7 +1,7 @@
 // The serial run of a program's code, but for the instances that records answer.
 
 ghost use Rattle.std.specs.Prelude.{◌≡◌, None, IfNone};
-ghost use Rattle.rerun_records.specs.Validity.{valid_at};
+ghost use Rattle.record_theory.specs.Validity.{valid_at};
 ghost use Rattle.rerun_reasons.specs.Unanswered.{AreUnanswered};
 
 use crate::reason::Ending;

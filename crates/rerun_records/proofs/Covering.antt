@@ -9,13 +9,14 @@ use Rattle.std.specs.Prelude.{◌||◌, nat_eq, slice_get, slice_set, slice_rang
 use Rattle.std.specs.List.{list_any}
 use Rattle.evaluation.specs.declared.note.Note.{Note}
 use Rattle.meaning.specs.Every.{every}
-use Rattle.rerun_records.specs.Record.{PlainRecord}
-use Rattle.rerun_records.specs.declared.spans.Span.{Span}
-use Rattle.rerun_records.specs.Spans.{is_covered_by, is_touched}
-use Rattle.rerun_records.specs.Blocks.{is_apart}
-use Rattle.rerun_records.proofs.Members.{left_is, right_is, every_weaker}
-use Rattle.rerun_records.proofs.Touched.{spans_apart}
+use Rattle.record_theory.specs.Record.{PlainRecord}
+use Rattle.instance_records.specs.declared.spans.Span.{Span}
+use Rattle.instance_records.specs.Spans.{is_covered_by, is_touched}
+use Rattle.record_theory.specs.InStep.{is_apart}
+use Rattle.record_theory.proofs.Members.{left_is, right_is, every_weaker}
+use Rattle.instance_records.proofs.Touched.{spans_apart}
 use Rattle.rerun_records.specs.Covers.{PlainLevel, CoversBut, CoversLevel, AreLevelsBut, AreApart, AreSameBut, is_hull_apart}
+use Rattle.instance_records.proofs.Joined.{below}
 
 -- ---- numbers of hulls and places
 
@@ -41,15 +42,6 @@ within_hulls width i n p l upto =
     let wide : (i + 1) * width ≤ n * width = mul-le (i + 1) width n width (omega (arith, l)) (omega arith) in
     let more = one_more i width in
     omega (arith, wide, more, upto)
-
-pub below : (n k : ℕ) → (n < k) ⊎ (k ≤ n)
-below n zero = inr (omega arith)
-below zero (suc k) = inl (omega arith)
-below (suc n) (suc k) =
-    elim (below n k) as (λ _. (suc n < suc k) ⊎ (suc k ≤ suc n)) [
-      | inl l ↦ inl (omega (arith, l))
-      | inr l ↦ inr (omega (arith, l))
-    ]
 
 -- ---- tests
 
@@ -276,20 +268,6 @@ joined_covers records width wider first end hulls wide y factor begins ends room
                 (every_weaker (is_covered_by g) (is_covered_by y) r.reads (λ note. holds (q - first) g note there_got) (narrow.held q p g r got lower upper other there)))
           ];
     }
-
--- what was held by hulls so far, and what the next one holds
-pub one_more_joined : (hulls : List (List Span)) (k : ℕ) (hull old new : List Span) → hull ≡ get_or hulls k hull → ((note : Note) → is_covered_by old note ≡ true → is_covered_by new note ≡ true)
-    → ((note : Note) → is_covered_by hull note ≡ true → is_covered_by new note ≡ true)
-    → ((i : ℕ) (g : List Span) (note : Note) → i < k → slice_get hulls i ≡ Some g → is_covered_by g note ≡ true → is_covered_by old note ≡ true)
-    → (i : ℕ) (g : List Span) (note : Note) → i < k + 1 → slice_get hulls i ≡ Some g → is_covered_by g note ≡ true → is_covered_by new note ≡ true
-one_more_joined hulls k hull old new at kept put so_far i g note upto there e =
-    elim (below i k) as (λ _. is_covered_by new note ≡ true) [
-      | inl less ↦ kept note (so_far i g note less there e)
-      | inr more ↦
-          (let here : i ≡ k = omega (arith, more, upto) in
-          let is : get_or hulls k hull ≡ g = get_or_from_slice_get hulls k g hull (subst (λ (n : ℕ). slice_get hulls n ≡ Some g) here there) in
-          put note (subst (λ (x : List Span). is_covered_by x note ≡ true) (sym (at ∙ is)) e))
-    ]
 
 -- ---- records that one is put in the place of, or added to
 

@@ -5,12 +5,13 @@ use Rattle.std.proofs.lemmas.Option.{get_or_from_slice_get}
 use Rattle.std.specs.List.{find, IsDistinct}
 use Rattle.meaning.specs.Tables.{Tables}
 use Rattle.meaning.specs.Tree.{Name}
-use Rattle.rerun_records.specs.Record.{PlainRecord, is_of, as_made}
-use Rattle.rerun_records.specs.Commits.{AreSingle}
-use Rattle.rerun_records.specs.InStep.{IsInStep, reads_agree}
-use Rattle.rerun_records.specs.Numbers.{most_number, with_numbers}
-use Rattle.rerun_records.specs.Validity.{record_valid, only_valid, valid_at}
-use Rattle.rerun_records.proofs.InStep.{IsNumber, number_is, number_agrees, counted_at}
+use Rattle.record_theory.specs.Record.{PlainRecord, is_of, as_made}
+use Rattle.record_theory.specs.Commits.{AreSingle}
+use Rattle.record_theory.specs.InStep.{IsInStep, reads_agree}
+use Rattle.record_numbers.specs.Stale.{most_number}
+use Rattle.record_theory.specs.Numbers.{with_numbers}
+use Rattle.record_theory.specs.Validity.{record_valid, only_valid, valid_at}
+use Rattle.record_theory.proofs.InStep.{IsNumber, number_is, number_agrees, counted_at}
 use Rattle.rerun_records.proofs.Leaves.{there_at}
 use Rattle.rerun_records.proofs.WithNumbers.{number_at}
 use Rattle.rerun_records.proofs.Wholes.{of_itself, other_instance}

@@ -5,7 +5,7 @@ use Rattle.std.specs.Prelude.{◌||◌, nat_eq, slice_get, slice_set}
 use Rattle.std.proofs.lemmas.Bool.Decides.{Decides-eqb}
 use Rattle.meaning.specs.Every.{every}
 use Rattle.rerun_records.specs.Blocks.{PlainBlock, live_at, Remain, is_place, IsFree, is_number, is_home, AreHoused}
-use Rattle.rerun_records.proofs.Members.{left_is, right_is, both, every_weaker}
+use Rattle.record_theory.proofs.Members.{left_is, right_is, both, every_weaker}
 
 pub false_if : (b : Bool) → (b ≡ true → ⊥) → b ≡ false
 false_if true f = absurd (f refl)

@@ -5,8 +5,8 @@ use Rattle.std.specs.List.{find, position_or_len, AllByRecursion, IsDistinct}
 use Rattle.std.proofs.lemmas.Bool.{cases_eq, cases_lt}
 use Rattle.place_chains.specs.Chains.{IsEndOf}
 use Rattle.place_chains.specs.Mixing.{number_of}
-use Rattle.rerun_records.specs.Record.{PlainRecord, is_of, same_instance, instance_number, NoneFrom, as_made}
-use Rattle.rerun_records.specs.Commits.{put_record, AreSingle}
+use Rattle.record_theory.specs.Record.{PlainRecord, is_of, same_instance, instance_number, NoneFrom, as_made}
+use Rattle.record_theory.specs.Commits.{put_record, AreSingle}
 use Rattle.rerun_records.proofs.Homes.{false_if}
 use Rattle.rerun_records.proofs.Wholes.{of_itself, of_procedure, of_arguments, place_at_place}
 

@@ -5,11 +5,11 @@ use Rattle.std.specs.List.{position_or_len}
 use Rattle.std.proofs.lemmas.Bool.Decides.{Decides-eqb}
 use Rattle.meaning.specs.Every.{every}
 use Rattle.monoid_laws.specs.declared.Kind.{Kind}
-use Rattle.rerun_records.specs.Record.{PlainRecord, as_made, same_instance}
-use Rattle.rerun_records.specs.Commits.{put_record}
-use Rattle.rerun_records.specs.Numbers.{with_numbers}
+use Rattle.record_theory.specs.Record.{PlainRecord, as_made, same_instance}
+use Rattle.record_theory.specs.Commits.{put_record}
+use Rattle.record_theory.specs.Numbers.{with_numbers}
 use Rattle.rerun_records.specs.Blocks.{PlainBlock, is_some_fresh, is_fresh_at, AreLeaves, BlockFits, live_at, AllFit, is_place, IsFree, PlainBlocks, BlocksFit, BlocksRemain, IsBlock}
-use Rattle.rerun_records.proofs.Members.{left_is, right_is, both}
+use Rattle.record_theory.proofs.Members.{left_is, right_is, both}
 use Rattle.rerun_records.proofs.WithNumbers.{same_without_numbers}
 use Rattle.rerun_records.proofs.Homes.{or_right, nothing_live}
 

@@ -5,8 +5,8 @@ use Rattle.std.specs.List.{position_or_len, SwappedAt}
 use Rattle.std.proofs.lemmas.Bool.{cases_eq}
 use Rattle.std.proofs.lemmas.List.{length-take-le, set-set, take-set-le, drop-set-lt, take_more_set, drop_more}
 use Rattle.std.proofs.lemmas.Option.{get_or_from_slice_get}
-use Rattle.rerun_records.specs.Record.{PlainRecord, same_instance, instance_number}
-use Rattle.rerun_records.specs.Commits.{put_record}
+use Rattle.record_theory.specs.Record.{PlainRecord, same_instance, instance_number}
+use Rattle.record_theory.specs.Commits.{put_record}
 use Rattle.rerun_records.proofs.WithNumbers.{place_within}
 use Rattle.rerun_records.proofs.Instances.{set_is_put, push_is_put, set_numbers, pushed_numbers}
 

@@ -3,11 +3,12 @@ use Rattle.std.proofs.Common.{◌≡◌, ℕ, zero, suc, ◌≤◌, ◌<◌, ℤ
 use Rattle.std.specs.Prelude.{slice_set, slice_get}
 use Rattle.meaning.specs.Every.{every}
 use Rattle.evaluation.specs.declared.note.Note.{Note}
-use Rattle.rerun_records.specs.Record.{PlainRecord}
-use Rattle.rerun_records.specs.Blocks.{is_apart}
+use Rattle.record_theory.specs.Record.{PlainRecord}
+use Rattle.record_theory.specs.InStep.{is_apart}
 use Rattle.rerun_records.specs.Covers.{AreApart}
-use Rattle.rerun_records.specs.Numbers.{most_number, number_then, numbers_then}
-use Rattle.rerun_records.proofs.NumbersThen.{untouched_stays}
+use Rattle.record_numbers.specs.Stale.{most_number}
+use Rattle.record_theory.specs.Numbers.{number_then, numbers_then}
+use Rattle.record_theory.proofs.NumbersThen.{untouched_stays}
 
 module _ (lost won : List Note) where
   -- the first numbers, so many, as they are then

@@ -1,9 +1,6 @@
 -- Of what tables held at one time each cell has one value, so a reading of a cell tells which others of it there are.
-use Rattle.std.proofs.Common.{◌≡◌, All, ℕ, zero, suc, ◌<◌, ℤ, Bool, true, false, true≢false, List, [], ◌∷◌, Option, Some, None, IfSome, length, map, refl, sym, ap, ◌∙◌, subst, arith, get_or}
-use Rattle.std.specs.Prelude.{◌||◌, slice_get, Box}
-use Rattle.std.specs.declared.alloc.Global.{Global}
-use Rattle.std.specs.declared.sync.Arc.{Arc}
-use Rattle.std.specs.List.{flat_map}
+use Rattle.std.proofs.Common.{◌≡◌, ℕ, zero, suc, ◌<◌, ℤ, Bool, true, false, true≢false, List, [], ◌∷◌, Option, Some, None, length, refl, sym, ap, ◌∙◌, subst, arith, get_or}
+use Rattle.std.specs.Prelude.{◌||◌}
 use Rattle.std.specs.Ordering.{int_eq}
 use Rattle.std.proofs.lemmas.Bool.Decides.{Decides-int_eq}
 use Rattle.std.proofs.lemmas.List.Elements.{All-nil, All-cons, All-head, All-tail}
@@ -13,24 +10,17 @@ use Rattle.meaning.specs.Tables.{Tables}
 use Rattle.input_tables.specs.Edited.{cell_at}
 use Rattle.evaluation.specs.declared.note.Note.{Note}
 use Rattle.evaluation.specs.declared.note.Note.TheVariants.{Cell}
-use Rattle.evaluation.specs.declared.reading.Reading.{Reading}
-use Rattle.evaluation.specs.Short.{note_of}
-use Rattle.rerun_records.specs.declared.readings.Node.{Node, out-Node}
-use Rattle.rerun_records.specs.declared.readings.Below.{Below, out-Below}
-use Rattle.rerun_records.specs.ShortLists.{items_in}
-use Rattle.rerun_records.specs.Record.{PlainRecord}
-use Rattle.rerun_records.specs.Commits.{put_records}
-use Rattle.rerun_records.specs.InStep.{ReadNow, reads_agree}
-use Rattle.rerun_records.specs.Numbers.{with_numbers}
-use Rattle.rerun_records.specs.OneTime.{IsOfOneTime, AreOfOneTime}
-use Rattle.rerun_records.specs.Readings.{node_notes, shared_notes}
-use Rattle.rerun_records.specs.Same.{same_note, is_read}
-use Rattle.rerun_records.specs.Validity.{note_agrees}
-use Rattle.rerun_records.proofs.InStep.{both_decide}
-use Rattle.rerun_records.proofs.Members.{left_is, right_is}
-use Rattle.rerun_records.proofs.NodeNotes.{with_parts}
-use Rattle.rerun_records.proofs.Puts.{all_put_in}
-use Rattle.rerun_records.proofs.Same.{integer_is, note_is, read_append}
+use Rattle.record_theory.specs.Record.{PlainRecord}
+use Rattle.record_theory.specs.Commits.{put_records}
+use Rattle.record_theory.specs.InStep.{ReadNow, reads_agree}
+use Rattle.record_theory.specs.Numbers.{with_numbers}
+use Rattle.record_theory.specs.OneTime.{IsOfOneTime, AreOfOneTime}
+use Rattle.record_theory.specs.Same.{same_note, is_read}
+use Rattle.record_theory.specs.Validity.{note_agrees}
+use Rattle.record_theory.proofs.InStep.{both_decide}
+use Rattle.record_theory.proofs.Members.{left_is, right_is}
+use Rattle.record_theory.proofs.Puts.{all_put_in}
+use Rattle.record_theory.proofs.Same.{integer_is, note_is}
 
 -- ---- what tables hold
 
@@ -97,44 +87,3 @@ told_by_value reads t row c v w once e =
     both_decide (int_eq v w) (is_read reads (Cell t row c w))
     (λ f. subst (λ (x : ℤ). is_read reads (Cell t row c x) ≡ true) (integer_is v w f) e)
     (λ f. (Decides-int_eq v w).1 (once t row c v w e f))
-
-surely : (a b : Bool) → a ≡ true → (a || b) ≡ true
-surely a b e = ap (λ x. x || b) e
-
-surely_behind : (a b : Bool) → b ≡ true → (a || b) ≡ true
-surely_behind true b e = refl
-surely_behind false b e = e
-
-read_there : (own : List Reading) (k : ℕ) (x : Reading) (note : Note) → slice_get own k ≡ Some x → same_note note (note_of x) ≡ true → is_read (map note_of own) note ≡ true
-read_there [] k x note at e = absurd cc
-read_there (r ∷ rs) zero x note at e =
-    let same : r ≡ x = cc in
-    surely (same_note note (note_of r)) (is_read (map note_of rs) note) (ap (λ y. same_note note (note_of y)) same ∙ e)
-read_there (r ∷ rs) (suc k) x note at e = surely_behind (same_note note (note_of r)) (is_read (map note_of rs) note) (read_there rs k x note at e)
-
-pub some_there : (own : List Reading) (k : ℕ) (x : Reading) (f : ℤ → Note) (o : Option ℤ) → slice_get own k ≡ Some x → IfSome o (λ v. same_note (f v) (note_of x) ≡ true) → IfSome o (λ v. is_read (map note_of own) (f v) ≡ true)
-some_there own k x f None at e = e
-some_there own k x f (Some v) at e = read_there own k x (f v) at e
-
--- ---- what a part has read
-
-pub read_in_part : (parts : List (Arc Node Global)) (k : ℕ) (part : Arc Node Global) (note : Note) → k < length parts → part ≡ get_or parts k part → is_read (shared_notes part) note ≡ true → is_read (flat_map shared_notes parts) note ≡ true
-read_in_part [] k part note l at e = absurd (omega (arith, l))
-read_in_part (p ∷ ps) zero part note l at e =
-    read_append (shared_notes p) (flat_map shared_notes ps) note
-    ∙ surely (is_read (shared_notes p) note) (is_read (flat_map shared_notes ps) note) (ap (λ y. is_read (shared_notes y) note) (sym at) ∙ e)
-read_in_part (p ∷ ps) (suc k) part note l at e =
-    read_append (shared_notes p) (flat_map shared_notes ps) note
-    ∙ surely_behind (is_read (shared_notes p) note) (is_read (flat_map shared_notes ps) note) (read_in_part ps k part note (omega (arith, l)) at e)
-
-pub read_below : (n : Node) (note : Note) (b : Box Below Global) → (out-Node n).below ≡ Some b → is_read (flat_map shared_notes (out-Below b.value).parts.items) note ≡ true → is_read (node_notes n) note ≡ true
-read_below n note b at e =
-    ap (λ ns. is_read ns note) (with_parts n b at)
-    ∙ read_append (map note_of (items_in (out-Node n).own)) (flat_map shared_notes (out-Below b.value).parts.items) note
-    ∙ surely_behind (is_read (map note_of (items_in (out-Node n).own)) note) (is_read (flat_map shared_notes (out-Below b.value).parts.items) note) e
-
--- what all that was found of a list is in, and that in another
-pub read_further : {A : Type 0} (o : Option A) (f : A → List Note) (xs ys : List Note) → ((note : Note) → is_read xs note ≡ true → is_read ys note ≡ true) → IfSome o (λ x. (note : Note) → is_read (f x) note ≡ true → is_read xs note ≡ true)
-    → IfSome o (λ x. (note : Note) → is_read (f x) note ≡ true → is_read ys note ≡ true)
-read_further None f xs ys g h = h
-read_further (Some x) f xs ys g h = λ note e. g note (h note e)

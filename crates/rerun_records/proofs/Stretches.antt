@@ -6,11 +6,11 @@ use Rattle.std.specs.Prelude.{nat_eq, slice_get, slice_set, slice_range}
 use Rattle.std.specs.List.{list_any}
 use Rattle.evaluation.specs.declared.note.Note.{Note}
 use Rattle.meaning.specs.Every.{every}
-use Rattle.rerun_records.specs.Record.{PlainRecord}
-use Rattle.rerun_records.specs.Spans.{is_covered_by}
-use Rattle.rerun_records.specs.Blocks.{is_apart}
+use Rattle.record_theory.specs.Record.{PlainRecord}
+use Rattle.instance_records.specs.Spans.{is_covered_by}
+use Rattle.record_theory.specs.InStep.{is_apart}
 use Rattle.rerun_records.specs.Covers.{PlainStretch, PlainCovers, HoldBut, AreCoveredBut, AreCovered, AreApart, AreSameBut}
-use Rattle.rerun_records.proofs.Members.{every_weaker}
+use Rattle.record_theory.proofs.Members.{every_weaker}
 use Rattle.rerun_records.proofs.Covering.{hull_of, neither, stretch_passes, past_levels, levels_but, appended_same_but}
 
 -- ---- records are put in

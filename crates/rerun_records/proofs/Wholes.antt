@@ -12,18 +12,17 @@ use Rattle.linked_program.specs.Checked.{PlainChecked}
 use Rattle.meaning.specs.Elision.{depth_limit}
 use Rattle.meaning.specs.Every.{every}
 use Rattle.meaning.specs.Tables.{Tables}
-use Rattle.rerun_records.specs.Record.{PlainRecord, is_of, same_instance, as_made}
-use Rattle.rerun_records.specs.Commits.{AreSingle}
-use Rattle.rerun_records.specs.Numbers.{is_counted}
-use Rattle.rerun_records.specs.InStep.{IsInStep}
-use Rattle.rerun_records.specs.Sums.{highest}
-use Rattle.rerun_records.specs.Validity.{note_agrees, has_revision, record_valid, only_valid, valid_at}
-use Rattle.rerun_records.specs.Batches.{AreValidFrom, IsBatch}
+use Rattle.record_theory.specs.Record.{PlainRecord, is_of, same_instance, as_made}
+use Rattle.record_theory.specs.Commits.{AreSingle}
+use Rattle.record_theory.specs.Numbers.{is_counted}
+use Rattle.record_theory.specs.InStep.{IsInStep}
+use Rattle.record_theory.specs.Sums.{highest}
+use Rattle.record_theory.specs.Validity.{note_agrees, has_revision, record_valid, only_valid, valid_at}
+use Rattle.record_theory.specs.Batches.{AreValidFrom, IsBatch}
 use Rattle.rerun_records.specs.Blocks.{PlainBlock, is_fresh, is_fresh_at, AreLeaves, BlockFits, Answers}
-use Rattle.rerun_records.proofs.Members.{left_is, right_is, both, every_member}
-use Rattle.rerun_records.proofs.NodeNotes.{every_append}
-use Rattle.rerun_records.proofs.Singles.{is_le, set_itself}
-use Rattle.rerun_records.proofs.InStep.{fresh_agrees}
+use Rattle.record_theory.proofs.Members.{left_is, right_is, both, every_member, every_append}
+use Rattle.record_theory.proofs.Singles.{is_le, set_itself}
+use Rattle.record_theory.proofs.InStep.{fresh_agrees}
 use Rattle.rerun_records.proofs.Homes.{false_if}
 
 -- ---- which record is of a procedure and arguments

@@ -1,17 +1,18 @@
 -- Records with their numbers, as they are found and put in.
-use Rattle.std.proofs.Common.{◌≡◌, ℕ, zero, suc, ◌+◌, ◌≤◌, ◌<◌, ℤ, Bool, true, false, cond, not, List, [], ◌∷◌, ◌++◌, map, take, replicate, length, Some, None, refl, sym, ap, ◌∙◌, subst, arith}
-use Rattle.std.specs.Prelude.{nat_eq, slice_get, slice_set}
+use Rattle.std.proofs.Common.{◌≡◌, ℕ, zero, suc, ◌+◌, ◌≤◌, ℤ, Bool, true, false, cond, not, List, [], ◌∷◌, map, take, replicate, length, Some, None, refl, sym, ap, ◌∙◌, subst, arith}
+use Rattle.std.specs.Prelude.{nat_eq, slice_get}
 use Rattle.std.specs.List.{find, position_or_len, AllByRecursion, IsDistinct}
 use Rattle.std.proofs.lemmas.List.{nil_from_length, length-take-le, length-replicate}
-use Rattle.rerun_records.specs.Record.{PlainRecord, same_instance, is_of, as_made}
-use Rattle.rerun_records.specs.Numbers.{numbered_by, with_numbers, HaveNumbers, cleared, told_by, numbers_then}
-use Rattle.rerun_records.specs.Commits.{put_record, put_records, AreSingle}
+use Rattle.record_theory.specs.Record.{PlainRecord, same_instance, is_of, as_made}
+use Rattle.record_theory.specs.Numbers.{numbered_by, with_numbers, HaveNumbers, told_by, numbers_then}
+use Rattle.record_numbers.specs.Stale.{cleared}
+use Rattle.record_theory.specs.Commits.{put_record, put_records, AreSingle}
 use Rattle.meaning.specs.Tables.{Tables}
-use Rattle.rerun_records.specs.InStep.{IsInStep, ReadNow}
+use Rattle.record_theory.specs.InStep.{IsInStep, ReadNow}
 use Rattle.rerun_records.specs.Put.{ArePut}
 use Rattle.rerun_records.specs.Blocks.{is_fresh_at}
 use Rattle.evaluation.specs.declared.note.Note.{Note}
-use Rattle.rerun_records.proofs.Puts.{still_as_made}
+use Rattle.record_theory.proofs.Puts.{still_as_made}
 
 one_more : (n : ℕ) → 1 + n ≡ suc n
 one_more n = omega arith
@@ -143,16 +144,6 @@ one_longer (m ∷ ms) (suc place) = let h = one_longer ms place in omega (arith,
 
 pub one_longer_so : (ns ms : List ℕ) (place : ℕ) → ms ≡ cleared ns place → length ms ≤ length ns + 1
 one_longer_so ns ms place e = rw e (one_longer ns place)
-
-pub set_is_cleared : (ns : List ℕ) (place : ℕ) → place < length ns → slice_set ns place 0 ≡ cleared ns place
-set_is_cleared [] place l = absurd (omega (arith, l))
-set_is_cleared (m ∷ ms) zero l = refl
-set_is_cleared (m ∷ ms) (suc place) l = ap (λ xs. m ∷ xs) (set_is_cleared ms place (omega (arith, l)))
-
-pub push_is_cleared : (ns : List ℕ) (place : ℕ) → length ns ≤ place → ns ++ 0 ∷ [] ≡ cleared ns place
-push_is_cleared [] place l = refl
-push_is_cleared (m ∷ ms) zero l = absurd (omega (arith, l))
-push_is_cleared (m ∷ ms) (suc place) l = ap (λ xs. m ∷ xs) (push_is_cleared ms place (omega (arith, l)))
 
 -- what is shown of numbers and records is shown of equal ones
 pub same_view : (ns ms : List ℕ) (rs ss now : List PlainRecord) → ms ≡ ns → ss ≡ rs → with_numbers ns rs ≡ now → with_numbers ms ss ≡ now

@@ -1,26 +1,20 @@
 -- Blocks: records of one procedure whose arguments go up by one in one place, with one record that has what theirs have together.
-use Rattle.std.specs.Prelude.{◌≡◌, ◌⊎◌, ◌≤◌, ◌+◌, ℕ, suc, nat_eq, nat_le, ℤ, pos, ◌+ℤ◌, Bool, true, false, not, List, [], ◌∷◌}
+use Rattle.std.specs.Prelude.{◌≡◌, ◌⊎◌, ◌≤◌, ◌+◌, ℕ, suc, nat_eq, nat_le, ℤ, pos, ◌+ℤ◌, Bool, true, false, List, [], ◌∷◌}
 use Rattle.std.specs.Prelude.{Option, Some, None, map, length, slice_get, slice_set}
 use Rattle.std.specs.List.{list_any}
-use Rattle.evaluation.specs.declared.note.Note.{Note}
 use Rattle.linked_program.specs.Checked.{PlainChecked}
 use Rattle.meaning.specs.Elision.{depth_limit}
 use Rattle.meaning.specs.Every.{every}
 use Rattle.monoid_laws.specs.declared.Kind.{Kind}
-use Rattle.rerun_records.specs.Record.{PlainRecord, as_made}
-use Rattle.rerun_records.specs.InStep.{rests_on}
-use Rattle.rerun_records.specs.Sums.{IsSumOf}
-use Rattle.rerun_records.specs.Validity.{has_revision}
+use Rattle.record_theory.specs.Record.{PlainRecord, as_made}
+use Rattle.record_theory.specs.Sums.{IsSumOf}
+use Rattle.record_theory.specs.Validity.{has_revision}
 
 -- the places of records in order, which of their arguments counts up, and one record in the place of them all
 pub record PlainBlock : Type 0 where
   pub places : List ℕ
   pub counted : ℕ
   pub sum : PlainRecord
-
--- none of the changes may have changed what is read so
-abbrev pub is_apart : List (ℕ × ℤ) → Note → Bool
-is_apart changes note = not (list_any (rests_on note) changes)
 
 -- nothing that was read is counted as not held
 abbrev pub is_fresh : PlainRecord → Bool

@@ -2,10 +2,10 @@
 use Rattle.std.specs.Prelude.{◌≡◌, ◌+◌, ◌*◌, ◌<◌, ◌≤◌, ℕ, nat_eq, ℤ, Bool, true, false, not, List, [], ◌∷◌, Option, Some, None, length, slice_get}
 use Rattle.std.specs.List.{list_any}
 use Rattle.meaning.specs.Every.{every}
-use Rattle.rerun_records.specs.Record.{PlainRecord}
-use Rattle.rerun_records.specs.declared.spans.Span.{Span}
-use Rattle.rerun_records.specs.Spans.{is_covered_by, is_touched}
-use Rattle.rerun_records.specs.Blocks.{is_apart}
+use Rattle.record_theory.specs.Record.{PlainRecord}
+use Rattle.instance_records.specs.declared.spans.Span.{Span}
+use Rattle.instance_records.specs.Spans.{is_covered_by, is_touched}
+use Rattle.record_theory.specs.InStep.{is_apart}
 
 -- hulls in order, each for so many places
 pub record PlainLevel : Type 0 where

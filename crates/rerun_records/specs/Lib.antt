@@ -1,17 +1,3 @@
-pub mod Record
-pub mod Same
-pub mod Spans
-pub mod Readings
-pub mod Validity
-pub mod Commits
-pub mod Counts
-pub mod Numbers
 pub mod Put
-pub mod InStep
-pub mod OneTime
-pub mod Named
-pub mod ShortLists
-pub mod Batches
-pub mod Sums
 pub mod Blocks
 pub mod Covers

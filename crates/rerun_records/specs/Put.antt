@@ -1,9 +1,9 @@
 -- What it comes to that records are put in among others.
 use Rattle.std.specs.Prelude.{◌≡◌, List, map}
 use Rattle.meaning.specs.Tables.{Tables}
-use Rattle.rerun_records.specs.Record.{PlainRecord, as_made}
-use Rattle.rerun_records.specs.Commits.{put_records}
-use Rattle.rerun_records.specs.InStep.{IsInStep, ReadNow}
+use Rattle.record_theory.specs.Record.{PlainRecord, as_made}
+use Rattle.record_theory.specs.Commits.{put_records}
+use Rattle.record_theory.specs.InStep.{IsInStep, ReadNow}
 
 -- these were put in one after another: so it is of the records with their numbers, and without them, and they stay in step with the tables
 pub record ArePut (old made new : List PlainRecord) : Type 0 where

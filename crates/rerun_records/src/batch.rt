@@ -2,7 +2,7 @@
 ghost use Rattle.std.specs.Prelude.{◌≡◌, ◌≤◌, length};
 
 use crate::block::Block;
-use crate::record::Record;
+use instance_records::record::Record;
 
 /// So many instances, and one record that has what theirs have together; the record of the next instance may lie at that place.
 #[derive(Clone, Copy)]

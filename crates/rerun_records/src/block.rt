@@ -2,8 +2,8 @@
 ghost use Rattle.std.specs.Prelude.{◌≡◌, Some, true, slice_get};
 ghost use Rattle.rerun_records.specs.Blocks.{Answers};
 
-use crate::record::Record;
 use crate::series::Series;
+use instance_records::record::Record;
 use linked_program::checked::Checked;
 use std::marker::Model;
 

@@ -3,17 +3,17 @@ ghost use Rattle.std.specs.Prelude.{◌≡◌, ◌≤◌, ◌<◌, ◌+◌, ◌*
 ghost use Rattle.std.specs.Prelude.{slice_get, length, option_copied, true, false};
 ghost use Rattle.evaluation.specs.declared.note.Note.{Note};
 ghost use Rattle.meaning.specs.Every.{every};
-ghost use Rattle.rerun_records.specs.Blocks.{is_apart};
-ghost use Rattle.rerun_records.specs.Record.{PlainRecord};
-ghost use Rattle.rerun_records.specs.Spans.{is_covered_by};
-ghost use Rattle.rerun_records.specs.declared.spans.Span.{Span};
+ghost use Rattle.record_theory.specs.InStep.{is_apart};
+ghost use Rattle.record_theory.specs.Record.{PlainRecord};
+ghost use Rattle.instance_records.specs.Spans.{is_covered_by};
+ghost use Rattle.instance_records.specs.declared.spans.Span.{Span};
 ghost use Rattle.rerun_records.specs.Covers.{CoversBut, CoversLevel, HoldBut, AreCovered, AreApart, AreSameBut, is_hull_apart};
 
-use crate::hull::Hull;
 use crate::listing::record_at;
-use crate::readings::Readings;
-use crate::record::Record;
 use crate::stretch::{self, Stretch, apart_by, part};
+use instance_records::hull::Hull;
+use instance_records::readings::Readings;
+use instance_records::record::Record;
 use std::alloc::{AllocError, Global};
 use std::marker::Model;
 use std::slice;

@@ -2,12 +2,12 @@
 ghost use Rattle.std.specs.Prelude.{◌≡◌, ◌<◌, ◌≤◌, ◌+◌, [], length, take, drop, map, Some, slice_get};
 ghost use Rattle.std.specs.List.{position_or_len, SwappedAt};
 ghost use Rattle.meaning.specs.Tables.{Tables as PlainTables};
-ghost use Rattle.rerun_records.specs.Record.{PlainRecord, same_instance, instance_number, as_made};
-ghost use Rattle.rerun_records.specs.InStep.{IsInStep, ReadNow};
-ghost use Rattle.rerun_records.specs.Commits.{put_record, put_records, AreSingle};
+ghost use Rattle.record_theory.specs.Record.{PlainRecord, same_instance, instance_number, as_made};
+ghost use Rattle.record_theory.specs.InStep.{IsInStep, ReadNow};
+ghost use Rattle.record_theory.specs.Commits.{put_record, put_records, AreSingle};
 
 use crate::listing::place_for;
-use crate::record::Record;
+use instance_records::record::Record;
 use place_chains::mixing::number_of;
 use place_chains::places::Places;
 

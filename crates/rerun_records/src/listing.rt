@@ -3,19 +3,20 @@ ghost use Rattle.std.specs.Prelude.{◌≡◌, ◌<◌, ◌≤◌, ◌+◌, leng
 ghost use Rattle.std.specs.Prelude.{option_copied, vec_capacity};
 ghost use Rattle.std.specs.List.{find, position_or_len};
 ghost use Rattle.place_chains.specs.Mixing.{number_of as mixed_number};
-ghost use Rattle.rerun_records.specs.Record.{is_of, same_instance, instance_number, as_made};
-ghost use Rattle.rerun_records.specs.Numbers.{with_numbers, HaveNumbers, cleared};
-ghost use Rattle.rerun_records.specs.InStep.{IsInStep, ReadNow, reads_agree};
+ghost use Rattle.record_theory.specs.Record.{is_of, same_instance, instance_number, as_made};
+ghost use Rattle.record_theory.specs.Numbers.{with_numbers, HaveNumbers};
+ghost use Rattle.record_theory.specs.InStep.{IsInStep, ReadNow, reads_agree};
 ghost use Rattle.meaning.specs.Tables.{Tables as PlainTables};
-ghost use Rattle.rerun_records.specs.Commits.{put_record, put_records, AreSingle};
+ghost use Rattle.record_theory.specs.Commits.{put_record, put_records, AreSingle};
 ghost use Rattle.rerun_records.specs.Blocks.{BlocksFit};
 ghost use Rattle.rerun_records.specs.Covers.{AreCovered};
 
 use crate::blocks::Blocks;
 use crate::covers::Covers;
-use crate::record::Record;
+use instance_records::record::Record;
 use place_chains::mixing::number_of;
 use place_chains::places::Places;
+use record_numbers::stale::clear;
 
 /// The record at that place.
 pub(crate) fn record_at(list: &[Record], place: usize) -> Option<&Record>
@@ -128,21 +129,6 @@ fn put(
     put_at(list, places, covers, number, place, made);
     blocks.put_in(place);
     clear(numbers, place);
-}
-
-/// The number at that place, or of one behind the others, for which there is room, is 0.
-#[inline(always)]
-pub(crate) fn clear(numbers: &mut Vec<u32>, place: usize)
-    requires within { place ≤ length numbers.old.items }
-    requires room { length numbers.old.items < vec_capacity numbers.old }
-    ensures cleared { numbers.new.items ≡ cleared numbers.old.items place }
-    ensures room { vec_capacity numbers.new ≡ vec_capacity numbers.old }
-{
-    if place < numbers.len() {
-        numbers[place] = 0;
-    } else {
-        numbers.push_reserved(0);
-    }
 }
 
 /// The place of the record of the same procedure and arguments, or the one behind the others.

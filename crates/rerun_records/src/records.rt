@@ -3,16 +3,17 @@ ghost use Rattle.std.specs.Prelude.{◌≡◌, ◌↔◌, IsTrue, List, [], ◌�
 ghost use Rattle.std.specs.Prelude.{option_copied, map, not, replicate, take, true, slice_get};
 ghost use Rattle.std.specs.List.{find};
 ghost use Rattle.meaning.specs.Every.{every};
-ghost use Rattle.rerun_records.specs.Record.{PlainRecord, is_of, instance_number, as_made};
-ghost use Rattle.rerun_records.specs.Validity.{record_valid, valid_at};
-ghost use Rattle.rerun_records.specs.InStep.{IsInStep, ReadNow, reads_agree};
-ghost use Rattle.rerun_records.specs.OneTime.{AreOfOneTime};
-ghost use Rattle.rerun_records.specs.Numbers.{most_number, told_by};
-ghost use Rattle.rerun_records.specs.Commits.{put_records, AreSingle};
+ghost use Rattle.record_theory.specs.Record.{PlainRecord, is_of, instance_number, as_made};
+ghost use Rattle.record_theory.specs.Validity.{record_valid, valid_at};
+ghost use Rattle.record_theory.specs.InStep.{IsInStep, ReadNow, reads_agree, is_apart};
+ghost use Rattle.record_theory.specs.OneTime.{AreOfOneTime};
+ghost use Rattle.record_numbers.specs.Stale.{most_number};
+ghost use Rattle.record_theory.specs.Numbers.{told_by};
+ghost use Rattle.record_theory.specs.Commits.{put_records, AreSingle};
 ghost use Rattle.rerun_records.specs.Put.{ArePut};
-ghost use Rattle.rerun_records.specs.Named.{looked_up, FindsNamed, CommitsNamed, HaveValues};
-ghost use Rattle.rerun_records.specs.Batches.{IsBatch};
-ghost use Rattle.rerun_records.specs.Blocks.{BlockFits, is_apart, is_fresh_at};
+ghost use Rattle.record_theory.specs.Named.{looked_up, FindsNamed, CommitsNamed, HaveValues};
+ghost use Rattle.record_theory.specs.Batches.{IsBatch};
+ghost use Rattle.rerun_records.specs.Blocks.{BlockFits, is_fresh_at};
 ghost use Rattle.monoid_laws.specs.declared.Kind.{Kind as PlainKind};
 
 use crate::batch::Batch;
@@ -20,17 +21,18 @@ use crate::block::Block;
 use crate::blocks::{Blocks, Width};
 use crate::covers::Covers;
 use crate::keeping::keep_last;
-use crate::key::Key;
 use crate::listing::{found_in, is_of, put_all, record_at};
-use crate::record::Record;
 use crate::series::Series;
 use crate::telling::tell;
 use evaluation::note::Note;
 use input_tables::Tables;
+use instance_records::key::Key;
+use instance_records::record::Record;
 use linked_program::checked::Checked;
 use monoid_laws::Kind;
 use place_chains::mixing::number_of;
 use place_chains::places::Places;
+use record_numbers::stale::is_fresh;
 use std::alloc::{AllocError, Global};
 use std::marker::Model;
 
@@ -54,11 +56,11 @@ pub struct Records {
 
 impl Model for Records {
     ghost use Rattle.std.specs.Prelude.{◌≡◌, List, map};
-    ghost use Rattle.rerun_records.specs.Record.{PlainRecord, instance_number};
-    ghost use Rattle.rerun_records.specs.Numbers.{with_numbers, HaveNumbers};
+    ghost use Rattle.record_theory.specs.Record.{PlainRecord, instance_number};
+    ghost use Rattle.record_theory.specs.Numbers.{with_numbers, HaveNumbers};
     ghost use Rattle.rerun_records.specs.Blocks.{BlocksFit};
     ghost use Rattle.rerun_records.specs.Covers.{AreCovered};
-    ghost use Rattle.rerun_records.specs.OneTime.{AreOfOneTime};
+    ghost use Rattle.record_theory.specs.OneTime.{AreOfOneTime};
 
     ghost Value = { List PlainRecord };
 
@@ -241,7 +243,7 @@ impl Records {
         if number == u32::MAX {
             return record.reads().agree(tables);
         }
-        number == 0
+        is_fresh(number)
     }
 
     /// Instances that records answer: that of the procedure of that number with these arguments, and those behind it in that
@@ -333,7 +335,7 @@ impl Records {
         ensures fresh { result ≡ true → is_fresh_at self.now place ≡ true }
     {
         match self.numbers.get(place) {
-            Some(number) => *number == 0,
+            Some(number) => is_fresh(*number),
             None => false,
         }
     }

@@ -2,15 +2,15 @@
 ghost use Rattle.std.specs.Prelude.{◌≡◌, ◌≤◌, ◌<◌, ◌+◌, ◌*◌, [], ◌∷◌, ℕ, List, Some, OnOk, length, slice_get, true};
 ghost use Rattle.evaluation.specs.declared.note.Note.{Note};
 ghost use Rattle.meaning.specs.Every.{every};
-ghost use Rattle.rerun_records.specs.Blocks.{is_apart};
-ghost use Rattle.rerun_records.specs.Record.{PlainRecord};
-ghost use Rattle.rerun_records.specs.Spans.{is_covered_by};
+ghost use Rattle.record_theory.specs.InStep.{is_apart};
+ghost use Rattle.record_theory.specs.Record.{PlainRecord};
+ghost use Rattle.instance_records.specs.Spans.{is_covered_by};
 ghost use Rattle.rerun_records.specs.Covers.{HoldBut, AreApart};
 
 use crate::covers::NARROW;
-use crate::hull::Hull;
-use crate::readings::Readings;
-use crate::record::Record;
+use instance_records::hull::Hull;
+use instance_records::readings::Readings;
+use instance_records::record::Record;
 use std::alloc::{AllocError, Global};
 use std::marker::Model;
 use std::slice;

@@ -1,23 +1,25 @@
 // How the change of a row changes the numbers of records.
-ghost use Rattle.std.specs.Prelude.{◌≡◌, ◌≤◌, ◌<◌, ◌+◌, ◌++◌, ◌∷◌, [], IfSome, length, map, min, not, true, slice_set, Some};
+ghost use Rattle.std.specs.Prelude.{◌≡◌, ◌≤◌, ◌<◌, ◌+◌, ◌++◌, ◌∷◌, [], IfSome, length, map, not, true, slice_set, Some};
 ghost use Rattle.meaning.specs.Every.{every};
-ghost use Rattle.rerun_records.specs.Blocks.{BlocksFit, is_apart};
+ghost use Rattle.rerun_records.specs.Blocks.{BlocksFit};
+ghost use Rattle.record_theory.specs.InStep.{is_apart};
 ghost use Rattle.evaluation.specs.declared.note.Note.{Note as PlainNote};
 ghost use Rattle.evaluation.specs.Short.{note_of};
-ghost use Rattle.rerun_records.specs.Counts.{how_many};
+ghost use Rattle.record_theory.specs.Counts.{how_many};
 ghost use Rattle.rerun_records.specs.Covers.{AreApart, AreCovered};
-ghost use Rattle.rerun_records.specs.Numbers.{most_number, number_by, number_then, numbers_then, with_numbers};
-ghost use Rattle.rerun_records.specs.OneTime.{AreOfOneTime, IsOfOneTime};
-ghost use Rattle.rerun_records.specs.Same.{is_read, same_note};
+ghost use Rattle.record_theory.specs.Numbers.{number_then, numbers_then, with_numbers};
+ghost use Rattle.record_theory.specs.OneTime.{AreOfOneTime, IsOfOneTime};
+ghost use Rattle.record_theory.specs.Same.{is_read, same_note};
 
 use crate::blocks::Blocks;
 use crate::covers::Covers;
-use crate::narrowing::how_many_own;
-use crate::readings::{Readings, are_same};
-use crate::record::Record;
-use crate::ways::{NONE, behind_first, first_touched, value_near};
 use evaluation::note::Note;
 use evaluation::reading::Reading;
+use instance_records::narrowing::how_many_own;
+use instance_records::readings::{Readings, are_same};
+use instance_records::record::Record;
+use instance_records::ways::{NONE, behind_first, first_touched, value_near};
+use record_numbers::stale::{is_fresh, number_after};
 
 /// Tells each record what the change of a row made of its number, where these readings don't hold any more and those hold again, and
 /// drops the blocks of those of which something doesn't hold then. It looks at the records that may have read the row, from the last
@@ -118,7 +120,7 @@ fn renumber(numbers: &mut [u32], blocks: &mut Blocks, list: &[Record], place: us
     ensures fit { BlocksFit (with_numbers numbers.new list.now) blocks.new }
 {
     numbers[place] = number;
-    if number == 0 {
+    if is_fresh(number) {
         return;
     }
     blocks.drop_at(place);
@@ -302,29 +304,5 @@ fn told(
             let (more, fewer) = reads.how_many(change, lost, won);
             number_after(number, more, fewer)
         }
-    }
-}
-
-// A number where so many readings more don't hold, and so many of these fewer.
-#[inline(always)]
-fn number_after(number: u32, more: u64, fewer: u64) -> u32
-    requires few { more ≤ 9223372036854775807 }
-    ensures after { result ≡ number_by number more fewer }
-{
-    if number == u32::MAX {
-        return number;
-    }
-    let gone = u64::from(number) + more;
-    capped(gone.saturating_sub(fewer))
-}
-
-// The number in four bytes; the greatest of these where it has none.
-fn capped(number: u64) -> u32
-    ensures capped { result ≡ min most_number number }
-{
-    if number > u64::from(u32::MAX) {
-        u32::MAX
-    } else {
-        number as u32
     }
 }

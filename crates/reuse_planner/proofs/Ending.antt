@@ -7,7 +7,7 @@ use Rattle.meaning.specs.Elision as elision
 use Rattle.meaning.specs.Elision.{from_scratch}
 use Rattle.linked_program.specs.Checked.{PlainChecked}
 use Rattle.input_tables.specs.Edited.{Edited}
-use Rattle.rerun_records.specs.Record.{PlainRecord}
+use Rattle.record_theory.specs.Record.{PlainRecord}
 use Rattle.positions.specs.declared.answer.RunAnswer.{RunAnswer}
 use Rattle.positions.specs.declared.answer.RunAnswer.TheVariants as answer
 use Rattle.numbered_runs.specs.declared.step.Step.{Step}

@@ -3,8 +3,8 @@ use Rattle.std.proofs.Common.{◌≡◌, ℕ, List, [], map, sym, ap, subst, ◌
 use Rattle.monoid_laws.specs.declared.Kind.{Kind}
 use Rattle.linked_program.specs.Checked.{PlainChecked}
 use Rattle.input_tables.specs.Edited.{Edited}
-use Rattle.rerun_records.specs.Record.{PlainRecord, as_made}
-use Rattle.rerun_records.specs.Commits.{put_records}
+use Rattle.record_theory.specs.Record.{PlainRecord, as_made}
+use Rattle.record_theory.specs.Commits.{put_records}
 use Rattle.positions.specs.declared.answer.RunAnswer.{RunAnswer}
 use Rattle.positions.specs.declared.answer.RunAnswer.TheVariants as answer
 use Rattle.numbered_runs.specs.declared.step.Step.{Step}

@@ -5,7 +5,7 @@ use Rattle.positions.specs.declared.answer.RunAnswer.{RunAnswer}
 use Rattle.positions.specs.declared.answer.RunAnswer.TheVariants as answer
 use Rattle.linked_program.specs.Checked.{PlainChecked}
 use Rattle.input_tables.specs.Edited.{Edited}
-use Rattle.rerun_records.specs.Record.{PlainRecord}
+use Rattle.record_theory.specs.Record.{PlainRecord}
 use Rattle.view_pool.specs.Stock.{Stock}
 use Rattle.monoid_laws.specs.declared.Kind.{Kind}
 use Rattle.positions.specs.Setting.{Setting}

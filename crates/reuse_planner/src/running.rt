@@ -1,8 +1,8 @@
 // Runs of a session by steps that are given.
 ghost use Rattle.std.specs.Prelude.{◌≡◌, ◌↔◌, ◌<◌, ◌≤◌, [], false, All, IfOk, OnOk, length};
 ghost use Rattle.linked_program.specs.TableNames.{columned_of};
-ghost use Rattle.rerun_records.specs.InStep.{IsInStep};
-ghost use Rattle.rerun_records.specs.Named.{HaveValues};
+ghost use Rattle.record_theory.specs.InStep.{IsInStep};
+ghost use Rattle.record_theory.specs.Named.{HaveValues};
 ghost use Rattle.worker_core.specs.Strands.{kits_in};
 ghost use Rattle.worker_core.specs.Cores.{is_no_memory};
 ghost use Rattle.numbered_runs.specs.Sound.{AreSoundFor};

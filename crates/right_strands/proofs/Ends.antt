@@ -30,7 +30,7 @@ use Rattle.strand_theory.specs.Faults.{BrokenAt}
 use Rattle.strand_theory.specs.Ready.{IsReady}
 use Rattle.strand_theory.proofs.Broken.{broken_from_scratch}
 use Rattle.strand_theory.proofs.Names.{same_name_true}
-use Rattle.rerun_records.specs.Record.{PlainRecord}
+use Rattle.record_theory.specs.Record.{PlainRecord}
 use Rattle.positions.specs.declared.phase.Fault.{Fault}
 use Rattle.positions.specs.declared.phase.Phase.TheVariants.{Leaving, Broken}
 use Rattle.positions.specs.declared.start.Start.{Start}

@@ -11,7 +11,7 @@ use Rattle.meaning.specs.Tallies.{no_tally}
 use Rattle.meaning.specs.LayeredStrand.{inlined, detached, continuation, resumed, stolen}
 use Rattle.linked_program.specs.Checked.{PlainChecked}
 use Rattle.input_tables.specs.Edited.{Edited}
-use Rattle.rerun_records.specs.Record.{PlainRecord}
+use Rattle.record_theory.specs.Record.{PlainRecord}
 use Rattle.positions.specs.declared.phase.Phase.{Phase}
 use Rattle.positions.specs.declared.phase.Phase.TheVariants.{Entering, Running, AtSpawn, Returning, Leaving, Broken}
 use Rattle.positions.specs.declared.start.Start.{Start}

@@ -3,8 +3,8 @@ use Rattle.std.proofs.Common.{◌≡◌, Bool, List, sym, ap, subst}
 use Rattle.meaning.specs.Schedules.{recording_from}
 use Rattle.linked_program.specs.Checked.{PlainChecked}
 use Rattle.input_tables.specs.Edited.{Edited}
-use Rattle.rerun_records.specs.Record.{PlainRecord}
-use Rattle.rerun_records.specs.Named.{AreKept, AreRecords}
+use Rattle.record_theory.specs.Record.{PlainRecord}
+use Rattle.record_theory.specs.Named.{AreKept, AreRecords}
 use Rattle.positions.specs.Setting.{Setting, setting_with}
 use Rattle.positions.specs.Advance.{advanced}
 use Rattle.positions.specs.Strands.{PlainStrand}

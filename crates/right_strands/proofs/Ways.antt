@@ -5,8 +5,8 @@ use Rattle.trail_theory.specs.OpenLayers.{IsNumbered}
 use Rattle.strand_theory.specs.Ready.{IsReady}
 use Rattle.linked_program.specs.Checked.{PlainChecked}
 use Rattle.input_tables.specs.Edited.{Edited}
-use Rattle.rerun_records.specs.Record.{PlainRecord}
-use Rattle.rerun_records.specs.Named.{AreKept}
+use Rattle.record_theory.specs.Record.{PlainRecord}
+use Rattle.record_theory.specs.Named.{AreKept}
 use Rattle.positions.specs.declared.start.Start.{Start}
 use Rattle.positions.specs.Setting.{Setting, setting_with, HasItsTables}
 use Rattle.positions.specs.Strands.{PlainStrand}

@@ -4,7 +4,7 @@ use Rattle.monoid_laws.specs.Kinds.{meaning}
 use Rattle.meaning.specs.Elision.{Answer, Finished, Faulted, from_scratch}
 use Rattle.meaning.specs.SmallStep.{same_name}
 use Rattle.linked_program.specs.declared.code.Code.{Code}
-use Rattle.rerun_records.specs.Record.{PlainRecord}
+use Rattle.record_theory.specs.Record.{PlainRecord}
 use Rattle.positions.specs.declared.phase.Paused.{Paused}
 use Rattle.positions.specs.declared.phase.Paused.TheVariants as paused
 use Rattle.positions.specs.Setting.{Setting}

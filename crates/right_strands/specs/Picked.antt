@@ -7,9 +7,9 @@ use Rattle.strand_theory.specs.Ready.{IsReady}
 use Rattle.linked_program.specs.TableNames.{columned_of}
 use Rattle.linked_program.specs.Checked.{PlainChecked, nothing}
 use Rattle.input_tables.specs.Edited.{Edited}
-use Rattle.rerun_records.specs.Record.{PlainRecord}
-use Rattle.rerun_records.specs.InStep.{IsInStep}
-use Rattle.rerun_records.specs.Named.{HaveValues}
+use Rattle.record_theory.specs.Record.{PlainRecord}
+use Rattle.record_theory.specs.InStep.{IsInStep}
+use Rattle.record_theory.specs.Named.{HaveValues}
 use Rattle.positions.specs.Setting.{Setting, setting_with}
 use Rattle.right_strands.specs.Remembering.{Remembers}
 

@@ -16,7 +16,7 @@ use Rattle.trail_theory.specs.Order.{Every}
 use Rattle.trail_theory.specs.OpenLayers.{IsNewRecord}
 use Rattle.trail_theory.specs.SerialRest.{Beside}
 use Rattle.trail_theory.specs.Right.{StartsAfter, full_rest, NoneWaits, NoneWaitsUnder}
-use Rattle.rerun_records.specs.Record.{PlainRecord}
+use Rattle.record_theory.specs.Record.{PlainRecord}
 use Rattle.positions.specs.declared.phase.Paused.TheVariants as paused
 use Rattle.positions.specs.declared.phase.Phase.TheVariants.{AtSpawn, Leaving}
 use Rattle.positions.specs.Setting.{Setting}

@@ -2,7 +2,7 @@
 ghost use Rattle.std.specs.Prelude.{◌≡◌, ◌⊎◌, ◌+◌, ◌≤◌, true, false, suc, List, [], length, IfOk, IfErr};
 ghost use Rattle.monoid_laws.specs.declared.Kind.{Kind};
 ghost use Rattle.meaning.specs.SmallStep.{same_name};
-ghost use Rattle.rerun_records.specs.Named.{HaveValues};
+ghost use Rattle.record_theory.specs.Named.{HaveValues};
 ghost use Rattle.positions.specs.Advance.{pause_of};
 ghost use Rattle.positions.specs.Moves.{lowest_alone};
 ghost use Rattle.positions.specs.Simulation.{place_of};
@@ -12,10 +12,10 @@ ghost use Rattle.right_strands.specs.Laid.{IsPausedAs, laid_as, AnswersElision, 
 use crate::run::{Run, Scene};
 use crate::strand::RightStrand;
 use frames::strand::Strand;
+use instance_records::record::Record;
 use positions::answer::RunAnswer;
 use positions::phase::Paused;
 use positions::start::Start;
-use rerun_records::record::Record;
 use std::alloc::{AllocError, Global};
 use std::marker::Model;
 pub use strand_list::laid_state::LaidState;

@@ -1,7 +1,7 @@
 // Who explains what of a script is refused, the faults of its runs, and what their memo instances come to.
 ghost use Rattle.std.specs.Prelude.{◌≡◌, true, false};
 ghost use Rattle.numbered_runs.specs.Come.{HasEnded};
-ghost use Rattle.rerun_records.specs.InStep.{IsInStep};
+ghost use Rattle.record_theory.specs.InStep.{IsInStep};
 
 use crate::notes::Notes;
 use input_tables::Tables;

@@ -1,7 +1,7 @@
 // Who is told of a session's runs.
 ghost use Rattle.std.specs.Prelude.{◌≡◌, Bool, true, false};
 ghost use Rattle.numbered_runs.specs.Come.{HasEnded};
-ghost use Rattle.rerun_records.specs.InStep.{IsInStep};
+ghost use Rattle.record_theory.specs.InStep.{IsInStep};
 
 use crate::explained::Cause;
 use input_tables::Tables;

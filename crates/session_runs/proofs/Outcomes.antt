@@ -8,10 +8,10 @@ use Rattle.trail_theory.specs.OpenLayers.{IsNewRecord}
 use Rattle.trail_theory.proofs.Contributions.{commits_sound}
 use Rattle.linked_program.specs.Checked.{PlainChecked, revised_of}
 use Rattle.input_tables.specs.Edited.{Edited}
-use Rattle.rerun_records.specs.Record.{PlainRecord, as_made}
-use Rattle.rerun_records.specs.Named.{AreKept}
-use Rattle.rerun_records.specs.Commits.{put_records}
-use Rattle.rerun_records.proofs.Lookups.{put_all}
+use Rattle.record_theory.specs.Record.{PlainRecord, as_made}
+use Rattle.record_theory.specs.Named.{AreKept}
+use Rattle.record_theory.specs.Commits.{put_records}
+use Rattle.record_theory.proofs.Lookups.{put_all}
 use Rattle.positions.specs.declared.answer.RunAnswer.{RunAnswer}
 use Rattle.positions.specs.declared.answer.RunAnswer.TheVariants as answer
 use Rattle.numbered_runs.specs.News.{HaveNews}

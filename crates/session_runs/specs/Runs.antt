@@ -7,8 +7,8 @@ use Rattle.meaning.specs.Elision as elision
 use Rattle.meaning.specs.Elision.{from_scratch}
 use Rattle.meaning.specs.Records.{needed, executed}
 use Rattle.linked_program.specs.Checked.{revised_of}
-use Rattle.rerun_records.specs.Record.{PlainRecord, as_made}
-use Rattle.rerun_records.specs.Commits.{put_records}
+use Rattle.record_theory.specs.Record.{PlainRecord, as_made}
+use Rattle.record_theory.specs.Commits.{put_records}
 use Rattle.positions.specs.Stands.{fault_in}
 use Rattle.positions.specs.declared.answer.RunAnswer.{RunAnswer}
 use Rattle.positions.specs.declared.answer.RunAnswer.TheVariants as answer

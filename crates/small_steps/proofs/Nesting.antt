@@ -8,7 +8,7 @@ use Rattle.linked_program.specs.CodeView.{memo_of}
 use Rattle.evaluation.specs.declared.slot.Slot.{Slot}
 use Rattle.evaluation.specs.Values.{NumberedOut, values_at}
 use Rattle.monoid_laws.specs.declared.Kind.{Kind}
-use Rattle.rerun_records.specs.Named.{HaveValues}
+use Rattle.record_theory.specs.Named.{HaveValues}
 use Rattle.linked_program.specs.declared.code.Instruction.{Instruction}
 use Rattle.positions.specs.declared.work.Position.{Position}
 use Rattle.positions.specs.declared.work.Loop.{Loop}

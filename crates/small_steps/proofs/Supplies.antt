@@ -1,7 +1,7 @@
 -- Steps with a free kit and without, and the kits that they take and give back.
 use Rattle.std.proofs.Common.{◌≡◌, ℕ, suc, ◌<◌, ◌≤◌, Bool, true, false, List, [], ◌∷◌, length, Result, Ok, Err, OnOk, refl, ap, sym, ◌∙◌, ◌+◌, ◌⊎◌, inl, inr, arith}
 use Rattle.monoid_laws.specs.declared.Kind.{Kind}
-use Rattle.rerun_records.specs.Record.{PlainRecord}
+use Rattle.record_theory.specs.Record.{PlainRecord}
 use Rattle.positions.specs.Layers.{PlainLayer, below_top}
 use Rattle.positions.specs.Tallies.{PlainOpened, is_own}
 use Rattle.small_steps.specs.Steps.{HoldsBy, IsSupplied, KeepsKits}

@@ -1,6 +1,6 @@
 // One small step of a strand, and the points at which there is none.
 ghost use Rattle.std.specs.Prelude.{◌≡◌, ◌+◌, ◌<◌, ◌^◌, OnErr, OnOk, option_copied};
-ghost use Rattle.rerun_records.specs.Named.{HaveValues};
+ghost use Rattle.record_theory.specs.Named.{HaveValues};
 ghost use Rattle.positions.specs.Strands.{IsLayered};
 ghost use Rattle.positions.specs.Advance.{performed, gone, worked, left_to, advanced, pause_of, next_statement, is_sync};
 ghost use Rattle.activations.specs.Given.{lent};

@@ -2,20 +2,20 @@
 ghost use Rattle.std.specs.Prelude.{◌≡◌, ◌<◌, ◌⊎◌, List, All, IfErr, IfOk, OnErr, OnOk, length, option_copied};
 ghost use Rattle.monoid_laws.specs.declared.Kind.{Kind};
 ghost use Rattle.monoid_laws.specs.Kinds.{IsMonoid};
-ghost use Rattle.rerun_records.specs.Named.{AreValuesFrom, HaveValues};
+ghost use Rattle.record_theory.specs.Named.{AreValuesFrom, HaveValues};
 ghost use Rattle.positions.specs.Advance.{reused, passed, opened_of, answer_for, recalled, started, closed, synced};
 ghost use Rattle.activations.specs.Given.{lent};
 ghost use Rattle.small_steps.specs.Steps.{GivesNone, HoldsFor, IsSuppliedBy, IsValued, KeepsAllKits, opened_in, revalued};
 
 use crate::machine::Machine;
 use activations::setting::Setting;
+use instance_records::record::Record;
 use layers::closing::send_home;
 use layers::layer::{DEEPEST, Layer};
 use layers::recording::Opened;
 use linked_program::checked::Checked;
 use positions::phase::Phase;
 use positions::work::Work;
-use rerun_records::record::Record;
 use std::alloc::{AllocError, Global};
 use std::mem;
 use view_pool::{Kit, KitSource, View};

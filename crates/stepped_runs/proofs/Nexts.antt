@@ -9,8 +9,8 @@ use Rattle.trail_theory.specs.OpenLayers.{IsNewRecord}
 use Rattle.trail_theory.specs.Typed.{TablesFit}
 use Rattle.trail_theory.proofs.Contributions.{commits_sound}
 use Rattle.linked_program.specs.TableNames.{Columned, columned_of}
-use Rattle.rerun_records.specs.Commits.{put_records}
-use Rattle.rerun_records.proofs.Lookups.{put_all}
+use Rattle.record_theory.specs.Commits.{put_records}
+use Rattle.record_theory.proofs.Lookups.{put_all}
 use Rattle.positions.specs.Setting.{Setting}
 use Rattle.positions.specs.Tallies.{PlainTally}
 use Rattle.numbered_runs.specs.News.{StandForKept, HaveNews, AreSound, AreSoundIn, next_setting}

@@ -13,7 +13,7 @@ ghost use Rattle.linked_program.specs.declared.code.Code.{Code};
 ghost use Rattle.linked_program.specs.TableNames.{Columned, columned_of};
 ghost use Rattle.linked_program.specs.Linked.{main_number};
 ghost use Rattle.linked_program.specs.Initials.{PlainInitial, AreUpdatesBy};
-ghost use Rattle.rerun_records.specs.Commits.{put_records};
+ghost use Rattle.record_theory.specs.Commits.{put_records};
 ghost use Rattle.positions.specs.Setting.{Setting, IsLinked};
 ghost use Rattle.positions.specs.Tallies.{PlainTally};
 ghost use Rattle.numbered_runs.specs.declared.refusal.Refusal.{Refusal};

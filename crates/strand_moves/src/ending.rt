@@ -4,9 +4,9 @@ ghost use Rattle.monoid_laws.specs.declared.Kind.{Kind};
 ghost use Rattle.positions.specs.Moves.{lowest_alone};
 ghost use Rattle.strand_moves.specs.Ends.{left_with};
 
+use instance_records::record::Record;
 use layers::closing::{close_all, send_home};
 use positions::phase::Phase;
-use rerun_records::record::Record;
 use small_steps::machine::Machine;
 use view_pool::{Kit, KitSource, View};
 

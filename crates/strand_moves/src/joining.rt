@@ -2,7 +2,7 @@
 ghost use Rattle.std.specs.Prelude.{◌≡◌, ◌⊎◌, [], List, All, IfOk, IfErr, OnOk, OnErr};
 ghost use Rattle.monoid_laws.specs.declared.Kind.{Kind};
 ghost use Rattle.monoid_laws.specs.Kinds.{IsMonoid, operate_all};
-ghost use Rattle.rerun_records.specs.Named.{HaveValues};
+ghost use Rattle.record_theory.specs.Named.{HaveValues};
 ghost use Rattle.positions.specs.Moves.{joined, joined_broken, joined_ended, settled_by, FoldsViews};
 ghost use Rattle.strand_moves.specs.Joins.{IsDone, with_worths};
 

@@ -2,8 +2,8 @@
 use Rattle.std.proofs.Common.{◌≡◌, List, [], map, sym, ap, subst, ◌∙◌}
 use Rattle.monoid_laws.specs.declared.Kind.{Kind}
 use Rattle.view_pool.specs.Stock.{Stock}
-use Rattle.rerun_records.specs.Record.{PlainRecord, as_made}
-use Rattle.rerun_records.specs.Commits.{put_records}
+use Rattle.record_theory.specs.Record.{PlainRecord, as_made}
+use Rattle.record_theory.specs.Commits.{put_records}
 use Rattle.positions.specs.Setting.{Setting, setting_with}
 use Rattle.positions.specs.declared.answer.RunAnswer.{RunAnswer}
 use Rattle.positions.specs.declared.answer.RunAnswer.TheVariants as answer

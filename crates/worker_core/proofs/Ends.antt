@@ -9,7 +9,7 @@ use Rattle.meaning.specs.Schedules.{Piece}
 use Rattle.run_theory.specs.UnflaggedRuns.{unflagged_run}
 use Rattle.linked_program.specs.Checked.{PlainChecked}
 use Rattle.input_tables.specs.Edited.{Edited}
-use Rattle.rerun_records.specs.Record.{PlainRecord}
+use Rattle.record_theory.specs.Record.{PlainRecord}
 use Rattle.positions.specs.declared.phase.Fault.{Fault}
 use Rattle.positions.specs.declared.phase.Phase.{Phase}
 use Rattle.positions.specs.declared.phase.Phase.TheVariants.{Entering, Running, AtSpawn, Returning, Leaving, Broken}

@@ -13,9 +13,9 @@ use Rattle.linked_program.specs.TableNames.{columned_of}
 use Rattle.linked_program.specs.Checked.{PlainChecked, IsChecked, revised_of}
 use Rattle.linked_program.specs.Initials.{AreUpdatesBy}
 use Rattle.input_tables.specs.Edited.{Edited}
-use Rattle.rerun_records.specs.Record.{PlainRecord}
-use Rattle.rerun_records.specs.InStep.{IsInStep}
-use Rattle.rerun_records.specs.Named.{HaveValues}
+use Rattle.record_theory.specs.Record.{PlainRecord}
+use Rattle.record_theory.specs.InStep.{IsInStep}
+use Rattle.record_theory.specs.Named.{HaveValues}
 use Rattle.activations.specs.Given.{setting_over}
 use Rattle.numbered_runs.specs.Named.{run_step}
 use Rattle.stepped_runs.specs.Runs.{first_run, stepped, are_workers, line_of}

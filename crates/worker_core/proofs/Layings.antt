@@ -3,7 +3,7 @@ use Rattle.std.proofs.Common.{arith, ◌≡◌, ℕ, ◌+◌, true, List, [], �
 use Rattle.std.specs.Prelude.{OnOk, IfErr}
 use Rattle.linked_program.specs.Checked.{PlainChecked}
 use Rattle.input_tables.specs.Edited.{Edited}
-use Rattle.rerun_records.specs.Record.{PlainRecord}
+use Rattle.record_theory.specs.Record.{PlainRecord}
 use Rattle.positions.specs.Advance.{pause_of}
 use Rattle.activations.specs.Given.{setting_over}
 use Rattle.stepped_runs.specs.Pieces.{PlainPiece, place_of, stalled}

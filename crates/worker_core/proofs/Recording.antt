@@ -8,8 +8,8 @@ use Rattle.meaning.specs.Elision as elision
 use Rattle.meaning.specs.Strands.{State, Held, Ended, Stalled, Faulted, Finished}
 use Rattle.meaning.specs.Schedules.{Piece}
 use Rattle.run_theory.specs.UnflaggedRuns.{unflagged_run}
-use Rattle.rerun_records.specs.Record.{PlainRecord}
-use Rattle.rerun_records.specs.Commits.{put_records}
+use Rattle.record_theory.specs.Record.{PlainRecord}
+use Rattle.record_theory.specs.Commits.{put_records}
 use Rattle.positions.specs.Setting.{Setting}
 use Rattle.positions.specs.declared.phase.Phase.{Phase}
 use Rattle.positions.specs.declared.phase.Phase.TheVariants.{Entering, Running, AtSpawn, Returning, Leaving, Broken}

@@ -3,7 +3,7 @@ use Rattle.std.proofs.Common.{◌≡◌, ◌⊎◌, inl, inr, Bool, true, false,
 use Rattle.std.specs.Prelude.{OnOk, IfErr}
 use Rattle.linked_program.specs.Checked.{PlainChecked}
 use Rattle.input_tables.specs.Edited.{Edited}
-use Rattle.rerun_records.specs.Record.{PlainRecord}
+use Rattle.record_theory.specs.Record.{PlainRecord}
 use Rattle.activations.specs.Given.{setting_over}
 use Rattle.numbered_runs.specs.Named.{run_step}
 use Rattle.stepped_runs.specs.Runs.{PlainRun, stepped}

@@ -5,7 +5,7 @@ use Rattle.view_pool.specs.Stock.{Stock}
 use Rattle.meaning.specs.Strands.{State, Finished, Faulted}
 use Rattle.input_tables.specs.Edited.{Edited}
 use Rattle.linked_program.specs.Checked.{PlainChecked}
-use Rattle.rerun_records.specs.Record.{PlainRecord}
+use Rattle.record_theory.specs.Record.{PlainRecord}
 use Rattle.activations.specs.Given.{setting_over}
 use Rattle.positions.specs.Setting.{Setting}
 use Rattle.positions.specs.Layers.{lowest}

@@ -6,10 +6,10 @@ use Rattle.meaning.specs.Elision.{Answer, Finished, Faulted, from_scratch}
 use Rattle.meaning.specs.Schedules.{RunState, end_of}
 use Rattle.linked_program.specs.Checked.{PlainChecked, IsChecked}
 use Rattle.input_tables.specs.Edited.{Edited}
-use Rattle.rerun_records.specs.Record.{PlainRecord}
-use Rattle.rerun_records.specs.InStep.{IsInStep}
-use Rattle.rerun_records.specs.Named.{HaveValues}
-use Rattle.rerun_records.specs.Commits.{put_records}
+use Rattle.record_theory.specs.Record.{PlainRecord}
+use Rattle.record_theory.specs.InStep.{IsInStep}
+use Rattle.record_theory.specs.Named.{HaveValues}
+use Rattle.record_theory.specs.Commits.{put_records}
 use Rattle.positions.specs.Setting.{Setting}
 use Rattle.positions.specs.Stands.{fault_in}
 use Rattle.positions.specs.declared.answer.RunAnswer.{RunAnswer}

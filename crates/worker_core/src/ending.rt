@@ -1,15 +1,15 @@
 // How a run ends: its answer, the pool with all kits, and the new records.
 ghost use Rattle.std.specs.Prelude.{◌≡◌, ◌+◌, ◌<◌, ◌≤◌, ◌++◌, ◌∷◌, [], All, List, IfOk, IfErr, length};
 ghost use Rattle.monoid_laws.specs.declared.Kind.{Kind};
-ghost use Rattle.rerun_records.specs.Named.{HaveValues};
+ghost use Rattle.record_theory.specs.Named.{HaveValues};
 ghost use Rattle.worker_core.specs.Cores.{IsEnd, IsEndOf, are_over, made_in, kept_of};
 ghost use Rattle.worker_core.specs.Moves.{IsFit};
 ghost use Rattle.worker_core.specs.Strands.{layers_of, layers_in, kits_in, AreFit};
 
 use crate::piece::Piece;
 use crate::strands::Strands;
+use instance_records::record::Record;
 use positions::answer::RunAnswer;
-use rerun_records::record::Record;
 use std::alloc::Global;
 use strand_list::lines::is_last;
 use view_pool::{Kit, Pool, View};

@@ -1,7 +1,7 @@
 // A strand is laid down.
 ghost use Rattle.std.specs.Prelude.{◌≡◌, ◌+◌, ◌≤◌, List, All, slice_index_or, ◌<◌, true, IfOk, IfSome, IfErr, OnErr, OnOk, Ok, [], length};
 ghost use Rattle.monoid_laws.specs.declared.Kind.{Kind};
-ghost use Rattle.rerun_records.specs.Record.{PlainRecord};
+ghost use Rattle.record_theory.specs.Record.{PlainRecord};
 ghost use Rattle.input_tables.specs.Edited.{Edited};
 ghost use Rattle.activations.specs.Given.{setting_over};
 ghost use Rattle.positions.specs.Advance.{pause_of};

@@ -11,9 +11,9 @@ mod stepping;
 mod strands;
 
 // What callers of a run name.
+pub use instance_records::record::Record;
 pub use numbered_runs::refusal::{Refusal, StartError};
 pub use numbered_runs::step::{BookStep, Place, State, Step, StrandLine};
 pub use positions::answer::RunAnswer;
 pub use positions::phase::Fault;
-pub use rerun_records::record::Record;
 pub use rerun_records::records::Records;

@@ -1,7 +1,7 @@
 // A strand with its holder's deque.
 ghost use Rattle.std.specs.Prelude.{◌≡◌, ◌+◌, ◌≤◌, ℕ, List, All, IfErr, IfOk, OnErr, OnOk, [], true, false, length};
 ghost use Rattle.monoid_laws.specs.Kinds.{IsMonoid};
-ghost use Rattle.rerun_records.specs.Named.{HaveValues};
+ghost use Rattle.record_theory.specs.Named.{HaveValues};
 ghost use Rattle.activations.specs.Given.{lent};
 ghost use Rattle.numbered_runs.specs.Named.{named_state, line};
 ghost use Rattle.stepped_runs.specs.Runs.{line_of};

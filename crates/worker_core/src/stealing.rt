@@ -1,7 +1,7 @@
 // A thief takes the oldest continuation of its victim.
 ghost use Rattle.std.specs.Prelude.{◌≡◌, true, ℕ, List, suc, ◌+◌, ◌<◌, IfOk, IfErr, OnErr, OnOk, Ok, [], ◌∷◌, length};
 ghost use Rattle.meaning.specs.Strands.{Split};
-ghost use Rattle.rerun_records.specs.Record.{PlainRecord};
+ghost use Rattle.record_theory.specs.Record.{PlainRecord};
 ghost use Rattle.input_tables.specs.Edited.{Edited};
 ghost use Rattle.activations.specs.Given.{setting_over};
 ghost use Rattle.stepped_runs.specs.Pieces.{place_of as begins_at, stolen_of, stolen_from};

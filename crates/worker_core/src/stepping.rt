@@ -1,7 +1,7 @@
 // A step by workers that there are.
 ghost use Rattle.std.specs.Prelude.{◌≡◌, All, IfErr, OnOk, Ok};
 ghost use Rattle.monoid_laws.specs.Kinds.{IsMonoid};
-ghost use Rattle.rerun_records.specs.Named.{HaveValues};
+ghost use Rattle.record_theory.specs.Named.{HaveValues};
 ghost use Rattle.activations.specs.Given.{lent};
 ghost use Rattle.numbered_runs.specs.Named.{run_step};
 ghost use Rattle.stepped_runs.specs.Runs.{stepped};

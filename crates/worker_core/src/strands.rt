@@ -1,7 +1,7 @@
 // The strands of a run, the pool of kits, and the history.
 ghost use Rattle.std.specs.Prelude.{◌≡◌, All, IfErr, IfOk, OnErr, OnOk, Ok, [], length, map};
 ghost use Rattle.monoid_laws.specs.Kinds.{IsMonoid};
-ghost use Rattle.rerun_records.specs.Named.{HaveValues};
+ghost use Rattle.record_theory.specs.Named.{HaveValues};
 ghost use Rattle.activations.specs.Given.{lent};
 ghost use Rattle.numbered_runs.specs.Named.{line};
 ghost use Rattle.stepped_runs.specs.Runs.{changed, first_run, line_of};

@@ -1,7 +1,7 @@
 -- How a run by threads has ended, for the setting that it was of.
 use Rattle.std.specs.Prelude.{◌≡◌, List, []}
-use Rattle.rerun_records.specs.Record.{PlainRecord}
-use Rattle.rerun_records.specs.Named.{HaveValues}
+use Rattle.record_theory.specs.Record.{PlainRecord}
+use Rattle.record_theory.specs.Named.{HaveValues}
 use Rattle.positions.specs.Setting.{Setting}
 use Rattle.positions.specs.declared.answer.RunAnswer.{RunAnswer}
 use Rattle.positions.specs.declared.answer.RunAnswer.TheVariants as answer

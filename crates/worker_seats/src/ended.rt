@@ -1,14 +1,14 @@
 //! How a run has ended.
 ghost use Rattle.std.specs.Prelude.{◌≡◌};
 ghost use Rattle.right_strands.specs.Laid.{HasRecorded};
-ghost use Rattle.rerun_records.specs.Named.{HaveValues};
+ghost use Rattle.record_theory.specs.Named.{HaveValues};
 ghost use Rattle.positions.specs.Setting.{Setting};
 ghost use Rattle.worker_seats.specs.Ends.{IsAlone, IsEnd};
 ghost use Rattle.positions.specs.declared.answer.RunAnswer.TheVariants as answer;
 
+use instance_records::record::Record;
 use numbered_runs::step::BookStep;
 use positions::answer::RunAnswer;
-use rerun_records::record::Record;
 use std::alloc::Global;
 
 /// How a run has ended: its answer, its new records, and the steps of its list of strands.

@@ -1,9 +1,9 @@
 use Rattle.std.proofs.Common.{rules, ◌≡◌, ◌<◌, ◌≤◌, ◌∙◌, ℕ, List, All, map, length, sym, subst, arith}
 use Rattle.monoid_laws.specs.declared.Kind.{Kind}
 use Rattle.monoid_laws.specs.Kinds.{IsMonoid}
-use Rattle.rerun_records.specs.Record.{PlainRecord, as_made}
-use Rattle.rerun_records.specs.Named.{HaveValues}
-use Rattle.rerun_records.specs.Sums.{IsSumOf}
+use Rattle.record_theory.specs.Record.{PlainRecord, as_made}
+use Rattle.record_theory.specs.Named.{HaveValues}
+use Rattle.record_theory.specs.Sums.{IsSumOf}
 use Rattle.gathered_records.specs.Summing.{at_places}
 use Rattle.rerun_records.specs.Blocks.{PlainBlock, BlockFits}
 use Rattle.gathered_records.proofs.Rows.{values_as_made, some_there, block_fits}

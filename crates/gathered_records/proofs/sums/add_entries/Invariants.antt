@@ -1,5 +1,5 @@
 use Rattle.std.proofs.Common.{◌≡◌, drop}
-use Rattle.rerun_records.specs.ShortLists.{items_in}
+use Rattle.instance_records.specs.ShortLists.{items_in}
 use Rattle.gathered_records.specs.Summing.{put_entries}
 use Rattle.gathered_records.proofs.sums.add_entries.Given as goal
 

@@ -2,9 +2,9 @@ use Rattle.std.proofs.Common.{rules, List, map}
 use Rattle.monoid_laws.specs.declared.Kind.{Kind}
 use Rattle.monoid_laws.specs.Worth.{Worth}
 use Rattle.monoid_laws.specs.Kinds.{meaning, operate_all, identities}
-use Rattle.rerun_records.specs.Record.{touched}
-use Rattle.rerun_records.specs.Named.{filled}
-use Rattle.rerun_records.proofs.Absorbed.{turn_within, turn_of_kind, turn_values, turn_worths, turn_absorbed, turns_over}
+use Rattle.record_theory.specs.Record.{touched}
+use Rattle.record_theory.specs.Named.{filled}
+use Rattle.record_theory.proofs.Absorbed.{turn_within, turn_of_kind, turn_values, turn_worths, turn_absorbed, turns_over}
 use Rattle.gathered_records.proofs.sums.add_values.Goals as goal
 
 pub add_at-requires : goal.add_at-requires

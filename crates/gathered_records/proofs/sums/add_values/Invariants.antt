@@ -1,7 +1,7 @@
 use Rattle.std.proofs.Common.{◌≡◌, drop, map}
 use Rattle.monoid_laws.specs.Kinds.{meaning, operate_all, identities, AreWorths}
-use Rattle.rerun_records.specs.Record.{touched}
-use Rattle.rerun_records.specs.Named.{AreValuesFrom, filled}
+use Rattle.record_theory.specs.Record.{touched}
+use Rattle.record_theory.specs.Named.{AreValuesFrom, filled}
 use Rattle.gathered_records.proofs.sums.add_values.Given as goal
 
 abbrev pub invariant-loop-entry : goal.invariant-loop-entry

@@ -1,7 +1,7 @@
 use Rattle.std.proofs.Common.{◌≡◌, ◌++◌, map, length}
 use Rattle.std.specs.Vec.Iter.{into_iter_items}
 use Rattle.monoid_laws.specs.Kinds.{meaning}
-use Rattle.rerun_records.specs.Record.{touched}
+use Rattle.record_theory.specs.Record.{touched}
 use Rattle.gathered_records.specs.Summing.{numbered_from}
 use Rattle.gathered_records.proofs.sums.numbered.Given as goal
 

@@ -1,8 +1,8 @@
 use Rattle.std.proofs.Common.{map, sym, subst}
-use Rattle.rerun_records.specs.Record.{PlainRecord, as_made}
+use Rattle.record_theory.specs.Record.{PlainRecord, as_made}
 use Rattle.rerun_records.specs.Blocks.{PlainBlock, BlockFits}
 use Rattle.gathered_records.specs.Summing.{at_places, summed}
-use Rattle.rerun_records.specs.Sums.{IsSumOf}
+use Rattle.record_theory.specs.Sums.{IsSumOf}
 use Rattle.gathered_records.proofs.Rows.{wide_sum, block_fits}
 use Rattle.gathered_records.proofs.widening.add_wide.Goals as goal
 

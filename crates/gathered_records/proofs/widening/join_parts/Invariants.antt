@@ -1,5 +1,5 @@
 use Rattle.std.proofs.Common.{map}
-use Rattle.rerun_records.specs.Record.{as_made}
+use Rattle.record_theory.specs.Record.{as_made}
 use Rattle.gathered_records.specs.Summing.{at_places, HasSummed}
 use Rattle.gathered_records.specs.Gathering.{AreInRow}
 use Rattle.gathered_records.proofs.widening.join_parts.Given as goal

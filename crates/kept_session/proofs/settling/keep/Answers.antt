@@ -1,6 +1,6 @@
 use Rattle.std.proofs.Common.{ap, map, sym, subst, ◌∙◌}
-use Rattle.rerun_records.specs.Record.{as_made}
-use Rattle.rerun_records.specs.Named.{HaveValues, CommitsNamed}
+use Rattle.record_theory.specs.Record.{as_made}
+use Rattle.record_theory.specs.Named.{HaveValues, CommitsNamed}
 use Rattle.record_index.specs.Indexed.{PlainIndexed, IsIndexed}
 use Rattle.kept_session.proofs.settling.keep.Goals as goal
 

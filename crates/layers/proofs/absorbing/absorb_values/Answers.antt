@@ -2,9 +2,9 @@ use Rattle.std.proofs.Common.{rules, ◌≡◌, ◌<◌, List, length, map, get_
 use Rattle.monoid_laws.specs.declared.Kind.{Kind}
 use Rattle.monoid_laws.specs.Worth.{Worth}
 use Rattle.monoid_laws.specs.Kinds.{operate, meaning}
-use Rattle.rerun_records.specs.Record.{touched}
+use Rattle.record_theory.specs.Record.{touched}
 use Rattle.layers.specs.Folds.{combined_with}
-use Rattle.rerun_records.proofs.Absorbed.{turn_within, turn_of_kind, turn_values, turn_worths, turn_absorbed, turns_over}
+use Rattle.record_theory.proofs.Absorbed.{turn_within, turn_of_kind, turn_values, turn_worths, turn_absorbed, turns_over}
 use Rattle.layers.proofs.absorbing.absorb_values.Goals as goal
 
 pub absorb_one-requires-clause-reducer_is : goal.absorb_one-requires-clause-reducer_is

@@ -1,7 +1,7 @@
 use Rattle.std.proofs.Common.{◌≡◌, drop, map}
 use Rattle.monoid_laws.specs.Kinds.{AreWorths}
-use Rattle.rerun_records.specs.Record.{touched}
-use Rattle.rerun_records.specs.Named.{AreValuesFrom}
+use Rattle.record_theory.specs.Record.{touched}
+use Rattle.record_theory.specs.Named.{AreValuesFrom}
 use Rattle.layers.specs.Folds.{combined_with}
 use Rattle.layers.proofs.absorbing.absorb_values.Given as goal
 

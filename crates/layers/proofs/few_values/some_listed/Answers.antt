@@ -2,7 +2,7 @@ use Rattle.std.proofs.Common.{◌++◌, map, ap, ◌∙◌}
 use Rattle.std.specs.Prelude.{option_to_list}
 use Rattle.std.proofs.lemmas.List.{map-append}
 use Rattle.monoid_laws.specs.Kinds.{meaning}
-use Rattle.rerun_records.specs.Record.{touched}
+use Rattle.record_theory.specs.Record.{touched}
 use Rattle.layers.specs.Recordings.{touched_at}
 use Rattle.layers.proofs.few_values.some_listed.Goals as goal
 

@@ -1,9 +1,9 @@
 use Rattle.std.proofs.Common.{◌≡◌, List, length, map, subst, sym, ap, ◌∙◌, arith, get_or}
 use Rattle.monoid_laws.specs.Worth.{Worth}
 use Rattle.monoid_laws.specs.declared.Kind.{Kind}
-use Rattle.rerun_records.specs.Record.{touched}
-use Rattle.rerun_records.proofs.Absorbed.{each, there}
-use Rattle.rerun_records.specs.Named.{AreValuesFrom}
+use Rattle.record_theory.specs.Record.{touched}
+use Rattle.record_theory.proofs.Absorbed.{each, there}
+use Rattle.record_theory.specs.Named.{AreValuesFrom}
 use Rattle.layers.proofs.Touches.{touched_values}
 use Rattle.layers.proofs.Few.{one_touched}
 use Rattle.layers.proofs.few_values.value_of_one.Goals as goal

@@ -3,10 +3,10 @@ use Rattle.std.specs.Prelude.{option_to_list}
 use Rattle.std.proofs.lemmas.List.{map-append}
 use Rattle.monoid_laws.specs.Worth.{Worth}
 use Rattle.monoid_laws.specs.declared.Kind.{Kind}
-use Rattle.rerun_records.specs.Record.{touched}
+use Rattle.record_theory.specs.Record.{touched}
 use Rattle.layers.specs.Recordings.{touched_at}
-use Rattle.rerun_records.proofs.Absorbed.{each, there}
-use Rattle.rerun_records.specs.Named.{AreValuesFrom}
+use Rattle.record_theory.proofs.Absorbed.{each, there}
+use Rattle.record_theory.specs.Named.{AreValuesFrom}
 use Rattle.layers.proofs.Touches.{touched_values}
 use Rattle.layers.proofs.Few.{two_touched}
 use Rattle.layers.proofs.few_values.values_of_some.Goals as goal

@@ -2,8 +2,8 @@ use Rattle.std.proofs.Common.{◌≡◌, List, length, subst, sym, ap, ◌∙◌
 use Rattle.monoid_laws.specs.Worth.{Worth}
 use Rattle.monoid_laws.specs.Kinds.{meaning}
 use Rattle.monoid_laws.specs.declared.Kind.{Kind}
-use Rattle.rerun_records.proofs.Absorbed.{each}
-use Rattle.rerun_records.specs.Named.{AreValuesFrom}
+use Rattle.record_theory.proofs.Absorbed.{each}
+use Rattle.record_theory.specs.Named.{AreValuesFrom}
 use Rattle.layers.proofs.Touches.{touched_values}
 use Rattle.layers.proofs.Few.{two_touched}
 use Rattle.layers.proofs.few_values.values_of_used.Goals as goal

@@ -1,10 +1,10 @@
 use Rattle.std.proofs.Common.{◌≡◌, ◌<◌, ◌≤◌, List, length, map, get_or, subst, sym, ap, ◌∙◌}
 use Rattle.monoid_laws.specs.declared.Kind.{Kind}
 use Rattle.monoid_laws.specs.Worth.{Worth}
-use Rattle.rerun_records.specs.Record.{touched}
+use Rattle.record_theory.specs.Record.{touched}
 use Rattle.layers.specs.Gatherings.{gathered_in}
-use Rattle.rerun_records.specs.Named.{AreValuesFrom}
-use Rattle.rerun_records.proofs.Absorbed.{each, there}
+use Rattle.record_theory.specs.Named.{AreValuesFrom}
+use Rattle.record_theory.proofs.Absorbed.{each, there}
 use Rattle.layers.proofs.Touches.{touched_next, touched_all, touched_values}
 use Rattle.layers.proofs.recording.contribution_of_many.Goals as goal
 

@@ -1,5 +1,5 @@
 use Rattle.std.proofs.Common.{◌≡◌, ◌++◌, drop, map}
-use Rattle.rerun_records.specs.Record.{touched}
+use Rattle.record_theory.specs.Record.{touched}
 use Rattle.layers.specs.Gatherings.{gathered_in}
 use Rattle.positions.specs.Tallies.{touched_from}
 use Rattle.layers.proofs.recording.contribution_of_many.Given as goal

@@ -1,6 +1,6 @@
 use Rattle.std.proofs.Common.{map}
 use Rattle.evaluation.specs.Short.{note_of}
-use Rattle.rerun_records.specs.ShortLists.{items_in}
+use Rattle.instance_records.specs.ShortLists.{items_in}
 use Rattle.layers.proofs.Marks.{still_once}
 use Rattle.layers.proofs.recording.distinct_of_few.Goals as goal
 

@@ -1,6 +1,6 @@
 use Rattle.std.proofs.Common.{rules, ◌++◌, ap, ◌∙◌, drop, ◌+◌}
 use Rattle.positions.specs.Tallies.{entries_from}
-use Rattle.rerun_records.specs.ShortLists.{items_in}
+use Rattle.instance_records.specs.ShortLists.{items_in}
 use Rattle.layers.proofs.Touches.{entry_next, entry_passed, entries_all}
 use Rattle.layers.proofs.recording.entries_of_all.Goals as goal
 use Rattle.layers.proofs.recording.entries_of_all.Goals.{then-flags-procedure+in_ok-push_entry, else-flags-procedure}

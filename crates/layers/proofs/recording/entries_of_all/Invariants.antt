@@ -1,6 +1,6 @@
 use Rattle.std.proofs.Common.{◌≡◌, ◌++◌, drop}
 use Rattle.positions.specs.Tallies.{entries_from}
-use Rattle.rerun_records.specs.ShortLists.{items_in}
+use Rattle.instance_records.specs.ShortLists.{items_in}
 use Rattle.layers.proofs.recording.entries_of_all.Given as goal
 
 abbrev pub invariant-loop-procedure : goal.invariant-loop-procedure

@@ -1,7 +1,7 @@
 use Rattle.std.proofs.Common.{◌≡◌, drop, map}
 use Rattle.std.specs.List.{list_any}
 use Rattle.evaluation.specs.Short.{note_of}
-use Rattle.rerun_records.specs.Same.{same_note}
+use Rattle.record_theory.specs.Same.{same_note}
 use Rattle.layers.proofs.recording.is_among.Given as goal
 
 abbrev pub invariant-loop-other : goal.invariant-loop-other

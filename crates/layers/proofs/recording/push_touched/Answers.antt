@@ -3,10 +3,10 @@ use Rattle.std.proofs.lemmas.List.{append-nil}
 use Rattle.monoid_laws.specs.Worth.{Worth}
 use Rattle.monoid_laws.specs.Kinds.{meaning}
 use Rattle.hypermaps.specs.Layer.{IsAt}
-use Rattle.rerun_records.specs.Record.{touched}
+use Rattle.record_theory.specs.Record.{touched}
 use Rattle.layers.specs.Gatherings.{gathered_in}
 use Rattle.layers.specs.Recordings.{touched_at}
-use Rattle.rerun_records.proofs.Absorbed.{each, same_at}
+use Rattle.record_theory.proofs.Absorbed.{each, same_at}
 use Rattle.layers.proofs.Touches.{some_is, identity_untouched}
 use Rattle.layers.proofs.recording.push_touched.Goals as goal
 

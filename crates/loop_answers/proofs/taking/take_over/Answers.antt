@@ -1,7 +1,7 @@
 use Rattle.std.proofs.Common.{◌+◌, List, ap, ◌∙◌, subst, sym}
 use Rattle.monoid_laws.specs.declared.Kind.{Kind}
-use Rattle.rerun_records.specs.Record.{PlainRecord}
-use Rattle.rerun_records.specs.Named.{AreValuesFrom}
+use Rattle.record_theory.specs.Record.{PlainRecord}
+use Rattle.record_theory.specs.Named.{AreValuesFrom}
 use Rattle.positions.specs.Layers.{PlainLayer}
 use Rattle.answered_loops.specs.Answered.{absorbed, answered_more}
 use Rattle.loop_answers.specs.Batches.{sums_of, instances_in}

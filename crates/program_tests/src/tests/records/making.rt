@@ -1,18 +1,18 @@
 //! Programs, tables and records that the tests speak of.
 ghost use Rattle.std.specs.Prelude.{◌≡◌};
 ghost use Rattle.meaning.specs.Every.{every};
-ghost use Rattle.rerun_records.specs.InStep.{IsInStep};
-ghost use Rattle.rerun_records.specs.Validity.{record_holds};
+ghost use Rattle.record_theory.specs.InStep.{IsInStep};
+ghost use Rattle.record_theory.specs.Validity.{record_holds};
 
 use evaluation::note::Note;
 use evaluation::reading::readings;
 use input_tables::Tables;
+use instance_records::readings::Readings;
+use instance_records::record::Record;
+use instance_records::short_list::ShortList;
 use linked_program::checked::Checked;
 use monoid_laws::Val;
-use rerun_records::readings::Readings;
-use rerun_records::record::Record;
 use rerun_records::records::Records;
-use rerun_records::short_list::ShortList;
 use std::alloc::Global;
 use std::process::Abort;
 

@@ -1,16 +1,16 @@
 //! What a record gives back.
-ghost use Rattle.rerun_records.specs.InStep.{IsInStep};
+ghost use Rattle.record_theory.specs.InStep.{IsInStep};
 
 use super::super::beginnings::{checked_on, sales};
 use super::making::{LINES, cell, committed, reads_of, second_line};
 use evaluation::note::Note;
 use evaluation::reading::{Reading, readings};
 use input_tables::Tables;
+use instance_records::record::Record;
+use instance_records::short_list::ShortList;
 use linked_program::checked::Checked;
 use monoid_laws::Val;
-use rerun_records::record::Record;
 use rerun_records::records::Records;
-use rerun_records::short_list::ShortList;
 use std::alloc::Global;
 use std::mem::size_of;
 use std::process::Abort;

@@ -4,7 +4,7 @@ use super::super::beginnings::sales;
 use super::making::{cell, reads_of};
 use evaluation::note::Note;
 use evaluation::reading::Reading;
-use rerun_records::readings::Readings;
+use instance_records::readings::Readings;
 use std::alloc::Global;
 use std::process::Abort;
 

@@ -1,5 +1,5 @@
 use Rattle.std.proofs.Common.{◌≡◌, drop}
-use Rattle.rerun_records.specs.Counts.{is_among}
+use Rattle.record_theory.specs.Counts.{is_among}
 use Rattle.record_index.specs.Counts.{same_revision}
 use Rattle.record_index.proofs.told.is_among.Given as goal
 

@@ -1,6 +1,6 @@
 use Rattle.std.proofs.Common.{◌∙◌, sym}
 use Rattle.std.specs.List.{find}
-use Rattle.rerun_records.specs.Record.{is_of}
+use Rattle.record_theory.specs.Record.{is_of}
 use Rattle.rerun_reasons.proofs.Deep.{deep_where_valid}
 use Rattle.rerun_reasons.proofs.finding.with_reason.Goals as goal
 

@@ -1,6 +1,6 @@
 use Rattle.std.proofs.Common.{◌∙◌, ap, subst, sym}
 use Rattle.meaning.specs.Every.{every}
-use Rattle.rerun_records.specs.Validity.{note_agrees}
+use Rattle.record_theory.specs.Validity.{note_agrees}
 use Rattle.rerun_reasons.proofs.Deep.{changes_none}
 use Rattle.rerun_reasons.proofs.stale.changed.Goals as goal
 

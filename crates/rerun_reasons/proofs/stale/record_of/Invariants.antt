@@ -1,6 +1,6 @@
 use Rattle.std.proofs.Common.{◌≡◌, drop}
 use Rattle.std.specs.List.{find}
-use Rattle.rerun_records.specs.Record.{is_of}
+use Rattle.record_theory.specs.Record.{is_of}
 use Rattle.rerun_reasons.proofs.stale.record_of.Given as goal
 
 abbrev pub invariant-loop-record : goal.invariant-loop-record

@@ -1,5 +1,5 @@
 use Rattle.std.proofs.Common.{◌≤◌, ◌*◌, List}
-use Rattle.rerun_records.specs.Record.{PlainRecord}
+use Rattle.record_theory.specs.Record.{PlainRecord}
 use Rattle.rerun_records.specs.Covers.{CoversLevel, AreApart}
 use Rattle.rerun_records.proofs.covers.apart_by_narrow.Given as goal
 

@@ -1,5 +1,5 @@
 use Rattle.std.proofs.Common.{rules, ◌≡◌, ◌+◌, ◌*◌, length, List, ap, subst, sym, refl, arith, ℕ}
-use Rattle.rerun_records.specs.declared.spans.Span.{Span}
+use Rattle.instance_records.specs.declared.spans.Span.{Span}
 use Rattle.rerun_records.specs.Covers.{CoversLevel}
 use Rattle.rerun_records.proofs.Covering.{joined_covers}
 use Rattle.rerun_records.proofs.covers.join.Goals as goal

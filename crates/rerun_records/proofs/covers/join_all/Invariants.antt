@@ -1,5 +1,5 @@
 use Rattle.std.proofs.Common.{◌≡◌, ◌*◌, ◌/◌, ◌-◌, ℕ, List, length}
-use Rattle.rerun_records.specs.Record.{PlainRecord}
+use Rattle.record_theory.specs.Record.{PlainRecord}
 use Rattle.rerun_records.specs.Covers.{CoversLevel}
 use Rattle.rerun_records.proofs.covers.join_all.Given as goal
 

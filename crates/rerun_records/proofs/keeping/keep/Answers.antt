@@ -1,9 +1,9 @@
 use Rattle.std.proofs.Common.{◌+◌, arith, drop, refl, subst, sym, take}
-use Rattle.rerun_records.specs.Commits.{AreSingle, put_records}
-use Rattle.rerun_records.proofs.InStep.{next_read, put_in_step}
+use Rattle.record_theory.specs.Commits.{AreSingle, put_records}
+use Rattle.record_theory.proofs.InStep.{next_read, put_in_step}
 use Rattle.rerun_records.proofs.Instances.{single_put}
 use Rattle.rerun_records.proofs.Moving.{next_is, some_there, within_kept}
-use Rattle.rerun_records.proofs.Puts.{still_put, still_as_made}
+use Rattle.record_theory.proofs.Puts.{still_put, still_as_made}
 use Rattle.rerun_records.proofs.keeping.keep.Goals as goal
 
 pub move_to-requires-clause-place : goal.move_to-requires-clause-place

@@ -1,8 +1,8 @@
 use Rattle.std.proofs.Common.{◌≡◌, ◌≤◌, [], length, take, drop, map}
 use Rattle.meaning.specs.Tables.{Tables}
-use Rattle.rerun_records.specs.Record.{instance_number, as_made}
-use Rattle.rerun_records.specs.InStep.{IsInStep, ReadNow}
-use Rattle.rerun_records.specs.Commits.{put_records, AreSingle}
+use Rattle.record_theory.specs.Record.{instance_number, as_made}
+use Rattle.record_theory.specs.InStep.{IsInStep, ReadNow}
+use Rattle.record_theory.specs.Commits.{put_records, AreSingle}
 use Rattle.rerun_records.proofs.keeping.keep_each.Given as goal
 
 abbrev pub invariant-loop-next : goal.invariant-loop-next

@@ -1,5 +1,5 @@
 use Rattle.std.proofs.Common.{◌≡◌, ◌≤◌, ◌∙◌, ◌<◌, ◌-◌, ℕ, length, sym, subst, arith, false, refl}
-use Rattle.rerun_records.specs.Record.{is_of, NoneFrom}
+use Rattle.record_theory.specs.Record.{is_of, NoneFrom}
 use Rattle.rerun_records.proofs.Instances.{there_is, as_many, none_behind, none_before, none_there}
 use Rattle.rerun_records.proofs.listing.found_in.Goals as goal
 

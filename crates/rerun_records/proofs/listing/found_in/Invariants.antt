@@ -1,5 +1,5 @@
 use Rattle.std.proofs.Common.{◌≡◌, ◌≤◌, ◌<◌, ◌-◌, length, get_or}
-use Rattle.rerun_records.specs.Record.{NoneFrom}
+use Rattle.record_theory.specs.Record.{NoneFrom}
 use Rattle.rerun_records.proofs.listing.found_in.Given as goal
 
 abbrev pub invariant-loop-end : goal.invariant-loop-end

@@ -1,6 +1,6 @@
 use Rattle.std.proofs.Common.{◌≡◌, ℕ, ℤ, List, None, true, subst}
 use Rattle.std.specs.List.{find}
-use Rattle.rerun_records.specs.Record.{is_of, same_instance}
+use Rattle.record_theory.specs.Record.{is_of, same_instance}
 use Rattle.rerun_records.proofs.Instances.{found_place, none_place}
 use Rattle.rerun_records.proofs.listing.place_for.Goals as goal
 

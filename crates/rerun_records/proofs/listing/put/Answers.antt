@@ -1,10 +1,10 @@
 use Rattle.std.proofs.Common.{refl, ap, sym, subst, ◌∙◌}
 use Rattle.std.specs.List.{position_or_len}
-use Rattle.rerun_records.specs.Record.{same_instance}
-use Rattle.rerun_records.specs.Commits.{AreSingle}
-use Rattle.rerun_records.specs.Numbers.{with_numbers}
+use Rattle.record_theory.specs.Record.{same_instance}
+use Rattle.record_theory.specs.Commits.{AreSingle}
+use Rattle.record_theory.specs.Numbers.{with_numbers}
 use Rattle.rerun_records.proofs.WithNumbers.{place_there, put_numbered, still_numbered, one_longer_so, place_with_numbers}
-use Rattle.rerun_records.proofs.InStep.{put_in_step}
+use Rattle.record_theory.proofs.InStep.{put_in_step}
 use Rattle.rerun_records.proofs.Instances.{put_longer, single_put}
 use Rattle.rerun_records.proofs.Leaves.{put_fits}
 use Rattle.rerun_records.proofs.listing.put.Goals as goal

@@ -1,5 +1,5 @@
-use Rattle.rerun_records.proofs.InStep.{next_read}
-use Rattle.rerun_records.proofs.Puts.{still_put, place_before, places_after, still_put_as_made}
+use Rattle.record_theory.proofs.InStep.{next_read}
+use Rattle.record_theory.proofs.Puts.{still_put, place_before, places_after, still_put_as_made}
 use Rattle.rerun_records.proofs.listing.put_all.Goals as goal
 
 pub put-requires : goal.put-requires

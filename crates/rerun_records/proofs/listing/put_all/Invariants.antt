@@ -1,10 +1,10 @@
 use Rattle.std.proofs.Common.{◌≡◌, ◌≤◌, ◌+◌, length, map, vec_capacity}
 use Rattle.std.specs.Vec.Iter.{into_iter_items}
-use Rattle.rerun_records.specs.Record.{as_made, instance_number}
-use Rattle.rerun_records.specs.Commits.{put_records}
-use Rattle.rerun_records.specs.Numbers.{with_numbers, HaveNumbers}
+use Rattle.record_theory.specs.Record.{as_made, instance_number}
+use Rattle.record_theory.specs.Commits.{put_records}
+use Rattle.record_theory.specs.Numbers.{with_numbers, HaveNumbers}
 use Rattle.meaning.specs.Tables.{Tables}
-use Rattle.rerun_records.specs.InStep.{IsInStep, ReadNow}
+use Rattle.record_theory.specs.InStep.{IsInStep, ReadNow}
 use Rattle.rerun_records.specs.Blocks.{BlocksFit}
 use Rattle.rerun_records.specs.Covers.{AreCovered}
 use Rattle.rerun_records.proofs.listing.put_all.Given as goal

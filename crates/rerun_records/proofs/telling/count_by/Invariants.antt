@@ -1,6 +1,6 @@
 use Rattle.std.proofs.Common.{◌≡◌, ◌+◌, ◌≤◌, drop}
-use Rattle.rerun_records.specs.Same.{same_note}
-use Rattle.rerun_records.specs.Counts.{how_many}
+use Rattle.record_theory.specs.Same.{same_note}
+use Rattle.record_theory.specs.Counts.{how_many}
 use Rattle.rerun_records.proofs.telling.count_by.Given as goal
 
 abbrev pub invariant-loop-note : goal.invariant-loop-note

@@ -1,9 +1,10 @@
-use Rattle.std.proofs.Common.{refl}
+use Rattle.std.proofs.Common.{refl, sym, ◌∙◌}
+use Rattle.std.proofs.lemmas.Bool.Decides.{Decides-eqb}
 use Rattle.rerun_records.proofs.Leaves.{zeroed_fits, dropped_fits}
 use Rattle.rerun_records.proofs.telling.renumber.Goals as goal
 
-pub returns-then-number-eq0-clause-fit : goal.returns-then-number-eq0-clause-fit
-returns-then-number-eq0-clause-fit c = zeroed_fits c.args.numbers.now _ c.args.list.now c.args.place c.args.number refl c.args.blocks.now c.if-number-eq0.true c.requires.fit
+pub returns-then-is_fresh-clause-fit : goal.returns-then-is_fresh-clause-fit
+returns-then-is_fresh-clause-fit c = zeroed_fits c.args.numbers.now _ c.args.list.now c.args.place c.args.number refl c.args.blocks.now ((Decides-eqb c.args.number 0).0 (sym c.is_fresh.ensures.fresh ∙ c.if-is_fresh.true)) c.requires.fit
 
 pub returns-clause-fit : goal.returns-clause-fit
 returns-clause-fit c =

@@ -1,5 +1,5 @@
 use Rattle.std.proofs.Common.{rules, ◌≤◌, ◌∙◌, ℕ, length, arith, get_or}
-use Rattle.rerun_records.specs.Numbers.{most_number}
+use Rattle.record_numbers.specs.Stale.{most_number}
 use Rattle.rerun_records.proofs.NumbersAt.{told_all, told_apart}
 use Rattle.rerun_records.proofs.telling.tell.Goals as goal
 

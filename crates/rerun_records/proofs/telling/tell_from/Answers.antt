@@ -1,8 +1,9 @@
 use Rattle.std.proofs.Common.{rules, ◌≡◌, ◌≤◌, ◌<◌, ◌+◌, ℕ, suc, List, None, IfNone, length, length-set, sym, ◌∙◌, ap, get_or, subst, arith}
-use Rattle.rerun_records.specs.Counts.{how_many}
+use Rattle.record_theory.specs.Counts.{how_many}
 use Rattle.rerun_records.specs.Covers.{AreApart}
-use Rattle.rerun_records.specs.Numbers.{most_number, number_by, number_then}
-use Rattle.rerun_records.specs.Same.{same_note}
+use Rattle.record_numbers.specs.Stale.{most_number, number_by}
+use Rattle.record_theory.specs.Numbers.{number_then}
+use Rattle.record_theory.specs.Same.{same_note}
 use Rattle.rerun_records.proofs.NumbersAt.{told_to, told_all, told_one, told_apart, small_set}
 use Rattle.rerun_records.proofs.telling.tell_from.Goals as goal
 

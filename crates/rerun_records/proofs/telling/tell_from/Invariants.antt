@@ -1,6 +1,7 @@
 use Rattle.std.proofs.Common.{◌≡◌, ◌≤◌, ℕ, length, get_or}
 use Rattle.rerun_records.specs.Blocks.{BlocksFit}
-use Rattle.rerun_records.specs.Numbers.{most_number, numbers_then, with_numbers}
+use Rattle.record_numbers.specs.Stale.{most_number}
+use Rattle.record_theory.specs.Numbers.{numbers_then, with_numbers}
 use Rattle.rerun_records.proofs.NumbersAt.{told_to}
 use Rattle.rerun_records.proofs.telling.tell_from.Given as goal
 

@@ -1,9 +1,9 @@
 use Rattle.std.proofs.Common.{[], ◌∷◌, map, ap, sym, ◌∙◌}
 use Rattle.evaluation.specs.Short.{note_of}
-use Rattle.rerun_records.specs.Blocks.{is_apart}
-use Rattle.rerun_records.specs.Counts.{how_many}
-use Rattle.rerun_records.specs.Same.{same_note}
-use Rattle.rerun_records.proofs.Narrowed.{same_number}
+use Rattle.record_theory.specs.InStep.{is_apart}
+use Rattle.record_theory.specs.Counts.{how_many}
+use Rattle.record_theory.specs.Same.{same_note}
+use Rattle.instance_records.proofs.Narrowed.{same_number}
 use Rattle.rerun_records.proofs.telling.told.Goals as goal
 
 pub returns-then-are_same : goal.returns-then-are_same

@@ -1,6 +1,6 @@
 use Rattle.std.proofs.Common.{◌≡◌, ◌≤◌, ℕ, [], length, map, sym, ap, subst, ◌∙◌}
-use Rattle.rerun_records.specs.Record.{as_made}
-use Rattle.rerun_records.specs.Commits.{put_records}
+use Rattle.record_theory.specs.Record.{as_made}
+use Rattle.record_theory.specs.Commits.{put_records}
 use Rattle.numbered_runs.specs.Sound.{AreSoundFor}
 use Rattle.kept_session.specs.Sessions.{PlainSession, stock_of}
 use Rattle.reuse_planner.proofs.Ending.{where_ok, where_err}

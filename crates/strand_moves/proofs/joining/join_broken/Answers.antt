@@ -1,5 +1,5 @@
 use Rattle.std.proofs.Common.{sym, subst}
-use Rattle.rerun_records.specs.Named.{HaveValues}
+use Rattle.record_theory.specs.Named.{HaveValues}
 use Rattle.positions.specs.Strands.{PlainStrand}
 use Rattle.strand_moves.proofs.joining.join_broken.Goals as goal
 

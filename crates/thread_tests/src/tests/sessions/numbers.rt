@@ -3,9 +3,9 @@
 use super::slow::procedure_name;
 use evaluation::note::Note;
 use input_tables::Tables;
+use instance_records::key::Key;
+use instance_records::record::Record;
 use linked_program::checked::Checked;
-use rerun_records::key::Key;
-use rerun_records::record::Record;
 use reuse_planner::Session;
 use session_kit::owners::in_session;
 use session_kit::scripts::played;

@@ -1,6 +1,6 @@
 use Rattle.std.proofs.Common.{◌≡◌, List, All, sym, ap, subst, refl, ◌∙◌}
 use Rattle.meaning.specs.Records.{Kept}
-use Rattle.rerun_records.specs.Named.{AreKept}
+use Rattle.record_theory.specs.Named.{AreKept}
 use Rattle.positions.specs.Setting.{IsLinked, HasItsTables, HasItsRecords, setting_with}
 use Rattle.positions.specs.Layers.{PlainLayer}
 use Rattle.positions.specs.Strands.{PlainStrand}

@@ -1,6 +1,6 @@
 use Rattle.std.proofs.Common.{◌≡◌, List, All, sym, subst, ◌∙◌}
 use Rattle.monoid_laws.specs.declared.Kind.{Kind}
-use Rattle.rerun_records.specs.Named.{HaveValues}
+use Rattle.record_theory.specs.Named.{HaveValues}
 use Rattle.kept_session.specs.Sessions.{AreKeptFor}
 use Rattle.kept_session.proofs.Keeping.{defined_keeps}
 use Rattle.kept_session.proofs.Procedures.{told_longer, told_records}

@@ -1,7 +1,7 @@
 use Rattle.std.proofs.Common.{◌≡◌, List, All, sym, subst}
 use Rattle.monoid_laws.specs.declared.Kind.{Kind}
 use Rattle.view_pool.specs.Stock.{Stock}
-use Rattle.rerun_records.specs.Named.{HaveValues}
+use Rattle.record_theory.specs.Named.{HaveValues}
 use Rattle.record_index.specs.Indexed.{PlainIndexed}
 use Rattle.kept_session.specs.Sessions.{AreKeptFor}
 use Rattle.kept_session.proofs.Keeping.{none_kept, none_valued}

@@ -6,7 +6,7 @@ use Rattle.linked_program.specs.Checked.{nothing}
 use Rattle.input_tables.specs.Edited.{beside, names_of}
 use Rattle.input_tables.proofs.Numbered.{table_of-absent}
 use Rattle.rules_theory.proofs.EditedTables.{put_keeps_columns}
-use Rattle.rerun_records.proofs.Puts.{same_values}
+use Rattle.record_theory.proofs.Puts.{same_values}
 use Rattle.kept_session.specs.Sessions.{PlainSession, standing_of}
 use Rattle.kept_session.specs.Applied.{IsApplyCause, of_put}
 use Rattle.kept_session.proofs.Changes.{WasNoted, noted_indexed, same_as_noted, put_told, told_beside}

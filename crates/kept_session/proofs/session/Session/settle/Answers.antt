@@ -2,7 +2,7 @@ use Rattle.std.proofs.Common.{◌≡◌, List, All, sym, subst}
 use Rattle.monoid_laws.specs.Kinds.{Fits}
 use Rattle.linked_program.specs.Checked.{IsChecked}
 use Rattle.rules_theory.proofs.Monoids.{checked_monoids}
-use Rattle.rerun_records.specs.Record.{PlainRecord}
+use Rattle.record_theory.specs.Record.{PlainRecord}
 use Rattle.kept_session.specs.Sessions.{PlainSession, AreNewFor}
 use Rattle.kept_session.proofs.AsMade.{made_read_now}
 use Rattle.kept_session.proofs.Keeping.{settled_keeps, settled_values}

@@ -1,6 +1,6 @@
 use Rattle.std.proofs.Common.{◌≡◌, ◌<◌, length, subst, sym}
 use Rattle.hypermaps.specs.Layer.{IsAt}
-use Rattle.rerun_records.specs.Readings.{all_of}
+use Rattle.instance_records.specs.Readings.{all_of}
 use Rattle.positions.specs.Layers.{PlainLayer, updating}
 use Rattle.layers.specs.Updates.{IsIdentity}
 use Rattle.layers.proofs.Updates.{unchanged_by}

@@ -1,6 +1,6 @@
 use Rattle.std.proofs.Common.{◌≡◌, ◌<◌, length, OnOk, subst, sym}
 use Rattle.hypermaps.specs.Layer.{IsAt}
-use Rattle.rerun_records.specs.Readings.{all_of}
+use Rattle.instance_records.specs.Readings.{all_of}
 use Rattle.positions.specs.Layers.{PlainLayer, updating}
 use Rattle.layers.proofs.Updates.{updated_on}
 use Rattle.layers.proofs.layer.Layer.update_fitting.Goals as goal

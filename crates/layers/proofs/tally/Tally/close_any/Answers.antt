@@ -1,6 +1,6 @@
 use Rattle.std.proofs.Common.{rules, ◌≡◌, ◌++◌, ◌∷◌, ◌∙◌, List, [], ap, reverse, subst, sym}
-use Rattle.rerun_records.specs.Named.{HaveValues, AreValuesFrom}
-use Rattle.rerun_records.specs.Record.{PlainRecord}
+use Rattle.record_theory.specs.Named.{HaveValues, AreValuesFrom}
+use Rattle.record_theory.specs.Record.{PlainRecord}
 use Rattle.positions.specs.Tallies.{PlainTally, record_by}
 use Rattle.layers.specs.Pieces.{items_in}
 use Rattle.layers.proofs.Touches.{one_more_values, closed_tally}

@@ -1,5 +1,5 @@
 use Rattle.std.proofs.Common.{◌≡◌, ◌++◌, ◌∙◌, ap, subst, sym}
-use Rattle.rerun_records.specs.Named.{HaveValues}
+use Rattle.record_theory.specs.Named.{HaveValues}
 use Rattle.positions.specs.Tallies.{PlainTally}
 use Rattle.layers.specs.Pieces.{items_in}
 use Rattle.layers.proofs.Touches.{both_values}

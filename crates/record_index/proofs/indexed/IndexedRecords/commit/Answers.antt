@@ -1,5 +1,5 @@
 use Rattle.std.proofs.Common.{inr, map, sym, subst}
-use Rattle.rerun_records.specs.Record.{as_made}
+use Rattle.record_theory.specs.Record.{as_made}
 use Rattle.record_index.specs.Indexed.{IsIndexed, AreTold}
 use Rattle.record_index.proofs.Commits.{all_told, told_put, room_made}
 use Rattle.record_index.proofs.indexed.IndexedRecords.commit.Goals as goal

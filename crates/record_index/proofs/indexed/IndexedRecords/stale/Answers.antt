@@ -4,8 +4,8 @@ use Rattle.std.specs.List.{find}
 use Rattle.meaning.specs.Tables.{index_of}
 use Rattle.meaning.specs.Tree.{Name}
 use Rattle.linked_program.specs.Checked.{names_in}
-use Rattle.rerun_records.specs.Record.{is_of, as_made}
-use Rattle.rerun_records.specs.Commits.{AreSingle}
+use Rattle.record_theory.specs.Record.{is_of, as_made}
+use Rattle.record_theory.specs.Commits.{AreSingle}
 use Rattle.record_index.specs.Indexed.{PlainIndexed}
 use Rattle.record_index.proofs.Asking.{stale_there, stale_none, stale_untold}
 use Rattle.record_index.proofs.indexed.IndexedRecords.stale.Goals as goal

@@ -1,6 +1,6 @@
 use Rattle.std.proofs.Common.{◌≡◌, Some, [], ◌∷◌, subst, sym, ◌∙◌}
 use Rattle.std.specs.Prelude.{slice_get}
-use Rattle.rerun_records.specs.Record.{PlainRecord}
+use Rattle.record_theory.specs.Record.{PlainRecord}
 use Rattle.rerun_records.specs.Covers.{PlainCovers, AreCoveredBut}
 use Rattle.rerun_records.proofs.Covering.{there_is}
 use Rattle.rerun_records.proofs.Stretches.{covered_but, past_covered}

@@ -1,6 +1,6 @@
 use Rattle.std.proofs.Common.{sym, subst}
 use Rattle.rerun_records.specs.Blocks.{BlockFits}
-use Rattle.rerun_records.specs.Numbers.{with_numbers}
+use Rattle.record_theory.specs.Numbers.{with_numbers}
 use Rattle.rerun_records.proofs.Leaves.{added_blocks_fit, still_fit}
 use Rattle.rerun_records.proofs.records.Records.add_block.Goals as goal
 

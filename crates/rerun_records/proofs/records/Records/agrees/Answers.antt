@@ -1,4 +1,4 @@
-use Rattle.std.proofs.Common.{◌<◌, ℕ, sym, subst}
+use Rattle.std.proofs.Common.{◌<◌, ℕ, sym, ◌∙◌, subst}
 use Rattle.std.proofs.lemmas.Option.{slice_get_within}
 use Rattle.rerun_records.proofs.Finding.{number_there, number_asked}
 use Rattle.rerun_records.proofs.records.Records.agrees.Goals as goal
@@ -11,6 +11,6 @@ index-number-requires c =
 
 pub returns : goal.returns
 returns c = record {
-  agree = number_asked c.args.tables.now.tables c.self.inside.numbers.items c.self.inside.list.items c.args.self.now c.args.place c.index-number.result.now c.args.record.now c.self.view_is
+  agree = c.is_fresh.ensures.fresh ∙ number_asked c.args.tables.now.tables c.self.inside.numbers.items c.self.inside.list.items c.args.self.now c.args.place c.index-number.result.now c.args.record.now c.self.view_is
       c.self.invariant.0.places c.requires.in_step c.requires.there c.index-number.ensures c.if-number.false;
 }

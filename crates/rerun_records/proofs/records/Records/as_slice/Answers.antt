@@ -1,5 +1,5 @@
 use Rattle.std.proofs.Common.{sym, ap, ◌∙◌, map}
-use Rattle.rerun_records.specs.Record.{as_made}
+use Rattle.record_theory.specs.Record.{as_made}
 use Rattle.rerun_records.proofs.WithNumbers.{same_without_numbers}
 use Rattle.rerun_records.proofs.records.Records.as_slice.Goals as goal
 

@@ -1,5 +1,5 @@
 use Rattle.std.proofs.Common.{ℕ, ℤ, List, IfSome, subst}
-use Rattle.rerun_records.specs.Batches.{IsBatch}
+use Rattle.record_theory.specs.Batches.{IsBatch}
 use Rattle.rerun_records.proofs.records.Records.batch.Goals as goal
 
 pub returns-in-Some : goal.returns-in-Some

@@ -1,5 +1,5 @@
 use Rattle.std.proofs.Common.{subst}
-use Rattle.rerun_records.specs.Commits.{AreSingle}
+use Rattle.record_theory.specs.Commits.{AreSingle}
 use Rattle.rerun_records.specs.Blocks.{BlocksFit}
 use Rattle.rerun_records.proofs.WithNumbers.{single_with_numbers}
 use Rattle.rerun_records.proofs.Leaves.{found_fits}

@@ -1,4 +1,4 @@
-use Rattle.rerun_records.proofs.Singles.{batch_of_one}
+use Rattle.record_theory.proofs.Singles.{batch_of_one}
 use Rattle.rerun_records.proofs.records.Records.batch_of_one.Goals as goal
 
 pub returns-in-Some : goal.returns-in-Some

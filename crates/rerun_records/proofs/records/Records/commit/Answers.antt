@@ -1,9 +1,9 @@
 use Rattle.std.proofs.Common.{sym, subst}
 use Rattle.meaning.specs.Commits.{committed}
 use Rattle.linked_program.specs.Checked.{revised_of}
-use Rattle.rerun_records.specs.Named.{AreKept, HasValuesIfAnswers, HaveValues}
-use Rattle.rerun_records.proofs.Puts.{all_put_in}
-use Rattle.rerun_records.proofs.Lookups.{put_all}
+use Rattle.record_theory.specs.Named.{AreKept, HasValuesIfAnswers, HaveValues}
+use Rattle.record_theory.proofs.Puts.{all_put_in}
+use Rattle.record_theory.proofs.Lookups.{put_all}
 use Rattle.rerun_records.proofs.OneTime.{read_now_once}
 use Rattle.rerun_records.proofs.records.Records.commit.Goals as goal
 

@@ -1,6 +1,6 @@
 use Rattle.std.proofs.Common.{◌≡◌, List, map, ap, sym, ◌∙◌, true}
 use Rattle.std.specs.Prelude.{slice_get}
-use Rattle.rerun_records.specs.Record.{PlainRecord, is_of, as_made}
+use Rattle.record_theory.specs.Record.{PlainRecord, is_of, as_made}
 use Rattle.rerun_records.proofs.WithNumbers.{same_without_numbers}
 use Rattle.rerun_records.proofs.Wholes.{of_procedure, of_arguments}
 use Rattle.rerun_records.proofs.records.Records.found_at.Goals as goal

@@ -1,6 +1,6 @@
 use Rattle.std.proofs.Common.{sym}
 use Rattle.linked_program.specs.Checked.{revised_of}
-use Rattle.rerun_records.proofs.Lookups.{looks_up, none_valid}
+use Rattle.record_theory.proofs.Lookups.{looks_up, none_valid}
 use Rattle.rerun_records.proofs.records.Records.lookup.Goals as goal
 
 pub returns-in-Some-clause-named : goal.returns-in-Some-clause-named

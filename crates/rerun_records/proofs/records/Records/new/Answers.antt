@@ -1,9 +1,9 @@
 use Rattle.std.proofs.Common.{◌∙◌, ap, sym, map, subst, List}
 use Rattle.std.proofs.lemmas.List.Elements.{All-nil}
-use Rattle.rerun_records.specs.Record.{PlainRecord, instance_number}
-use Rattle.rerun_records.specs.Numbers.{with_numbers}
+use Rattle.record_theory.specs.Record.{PlainRecord, instance_number}
+use Rattle.record_theory.specs.Numbers.{with_numbers}
 use Rattle.rerun_records.specs.Blocks.{PlainBlocks}
-use Rattle.rerun_records.specs.OneTime.{IsOfOneTime, AreOfOneTime}
+use Rattle.record_theory.specs.OneTime.{IsOfOneTime, AreOfOneTime}
 use Rattle.rerun_records.proofs.WithNumbers.{none_numbers}
 use Rattle.rerun_records.proofs.Leaves.{none_fit}
 use Rattle.rerun_records.proofs.records.Records.new.Goals as goal

@@ -1,6 +1,6 @@
 use Rattle.std.proofs.Common.{◌≡◌, ◌∙◌, List, ℕ, Some, None, ap, sym}
 use Rattle.std.specs.Prelude.{slice_get}
-use Rattle.rerun_records.specs.Record.{PlainRecord}
+use Rattle.record_theory.specs.Record.{PlainRecord}
 use Rattle.rerun_records.proofs.Homes.{home_there, home_beyond}
 use Rattle.rerun_records.proofs.WithNumbers.{number_at}
 use Rattle.rerun_records.proofs.records.Records.number.Goals as goal

@@ -1,7 +1,7 @@
 use Rattle.std.proofs.Common.{◌≡◌, List, map, ap, sym, ◌∙◌, subst, None}
 use Rattle.std.specs.Prelude.{slice_get}
 use Rattle.std.specs.List.{find}
-use Rattle.rerun_records.specs.Record.{PlainRecord, is_of, as_made}
+use Rattle.record_theory.specs.Record.{PlainRecord, is_of, as_made}
 use Rattle.rerun_records.proofs.WithNumbers.{same_without_numbers, none_numbered}
 use Rattle.rerun_records.proofs.Wholes.{of_procedure, of_arguments}
 use Rattle.rerun_records.proofs.records.Records.place_of.Goals as goal

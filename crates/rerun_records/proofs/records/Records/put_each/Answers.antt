@@ -1,6 +1,6 @@
 use Rattle.std.proofs.Common.{sym, subst}
-use Rattle.rerun_records.specs.InStep.{IsInStep}
-use Rattle.rerun_records.specs.OneTime.{AreOfOneTime}
+use Rattle.record_theory.specs.InStep.{IsInStep}
+use Rattle.record_theory.specs.OneTime.{AreOfOneTime}
 use Rattle.rerun_records.proofs.OneTime.{put_once}
 use Rattle.rerun_records.proofs.WithNumbers.{put_into, as_made_put_into, same_view}
 use Rattle.rerun_records.proofs.records.Records.put_each.Goals as goal

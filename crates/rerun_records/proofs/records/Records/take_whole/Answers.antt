@@ -1,12 +1,12 @@
 use Rattle.std.proofs.Common.{◌≡◌, ◌≤◌, ◌∙◌, List, [], ap, arith, length, map, subst, sym}
 use Rattle.std.proofs.lemmas.List.Elements.{All-nil}
 use Rattle.meaning.specs.Tables.{Tables}
-use Rattle.rerun_records.specs.Commits.{AreSingle, put_records}
+use Rattle.record_theory.specs.Commits.{AreSingle, put_records}
 use Rattle.rerun_records.specs.Covers.{AreCovered}
-use Rattle.rerun_records.specs.InStep.{IsInStep, ReadNow}
-use Rattle.rerun_records.specs.Numbers.{with_numbers}
-use Rattle.rerun_records.specs.OneTime.{AreOfOneTime, IsOfOneTime}
-use Rattle.rerun_records.specs.Record.{PlainRecord, as_made, instance_number}
+use Rattle.record_theory.specs.InStep.{IsInStep, ReadNow}
+use Rattle.record_theory.specs.Numbers.{with_numbers}
+use Rattle.record_theory.specs.OneTime.{AreOfOneTime, IsOfOneTime}
+use Rattle.record_theory.specs.Record.{PlainRecord, as_made, instance_number}
 use Rattle.rerun_records.proofs.Leaves.{none_fit}
 use Rattle.rerun_records.proofs.OneTime.{first_once}
 use Rattle.rerun_records.proofs.Stretches.{appended_covered}

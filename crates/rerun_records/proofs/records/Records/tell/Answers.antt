@@ -1,8 +1,8 @@
 use Rattle.std.proofs.Common.{◌≡◌, ◌∙◌, ap, sym, map, length}
 use Rattle.std.specs.Vec.{with_items}
 use Rattle.std.proofs.lemmas.List.{with_items_is}
-use Rattle.rerun_records.specs.Record.{as_made}
-use Rattle.rerun_records.specs.Numbers.{numbers_then}
+use Rattle.record_theory.specs.Record.{as_made}
+use Rattle.record_theory.specs.Numbers.{numbers_then}
 use Rattle.rerun_records.proofs.WithNumbers.{told_so, same_without_numbers}
 use Rattle.rerun_records.proofs.records.Records.tell.Goals as goal
 

@@ -1,7 +1,7 @@
 use Rattle.std.proofs.Common.{◌≡◌, [], ◌∷◌, false, ap, sym, ◌∙◌, arith}
 use Rattle.rerun_records.specs.Covers.{PlainStretch}
-use Rattle.rerun_records.specs.Spans.{is_touched}
-use Rattle.rerun_records.proofs.Touched.{spans_apart}
+use Rattle.instance_records.specs.Spans.{is_touched}
+use Rattle.instance_records.proofs.Touched.{spans_apart}
 use Rattle.rerun_records.proofs.stretch.Stretch.apart_to.Goals as goal
 
 pub returns-clause-apart : goal.returns-clause-apart

@@ -1,6 +1,6 @@
 use Rattle.std.proofs.Common.{rules, ◌≡◌, ◌+◌, ◌-◌, ◌<◌, All, reverse, length, set, sym, subst, ap, ◌∙◌, refl, to_z, of_z, to_z-of_z, w64}
 use Rattle.monoid_laws.specs.Kinds.{IsMonoid}
-use Rattle.rerun_records.specs.Named.{HaveValues}
+use Rattle.record_theory.specs.Named.{HaveValues}
 use Rattle.positions.specs.declared.phase.Phase.TheVariants.{Leaving}
 use Rattle.positions.specs.Layers.{PlainLayer}
 use Rattle.positions.specs.Strands.{PlainStrand}

@@ -1,7 +1,7 @@
 use Rattle.std.proofs.Common.{◌≡◌, ℕ, suc, List, Ok, [], ◌∷◌, refl, ap, subst, ◌∙◌}
 use Rattle.std.specs.Prelude.{reverse}
 use Rattle.input_tables.specs.Edited.{Edited}
-use Rattle.rerun_records.specs.Record.{PlainRecord}
+use Rattle.record_theory.specs.Record.{PlainRecord}
 use Rattle.meaning.specs.Strands.{Split}
 use Rattle.activations.specs.Given.{setting_over}
 use Rattle.positions.specs.Moves.{stolen}

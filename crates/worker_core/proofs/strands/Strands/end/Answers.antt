@@ -1,6 +1,6 @@
 use Rattle.std.proofs.Common.{All, [], subst, sym}
 use Rattle.std.proofs.lemmas.List.Elements.{All-head}
-use Rattle.rerun_records.specs.Named.{HaveValues}
+use Rattle.record_theory.specs.Named.{HaveValues}
 use Rattle.worker_core.specs.Moves.{IsFit}
 use Rattle.worker_core.specs.Strands.{AreFit}
 use Rattle.worker_core.proofs.strands.Strands.end.Goals as goal

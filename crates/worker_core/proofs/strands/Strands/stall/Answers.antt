@@ -1,6 +1,6 @@
 use Rattle.std.proofs.Common.{List, ◌≡◌, ◌<◌, true, [], Some, None, length, sym, ap, subst, ◌∙◌}
 use Rattle.input_tables.specs.Edited.{Edited}
-use Rattle.rerun_records.specs.Record.{PlainRecord}
+use Rattle.record_theory.specs.Record.{PlainRecord}
 use Rattle.activations.specs.Given.{setting_over}
 use Rattle.stepped_runs.specs.Pieces.{stalled}
 use Rattle.stepped_runs.specs.Runs.{changed}

@@ -1,7 +1,7 @@
 use Rattle.std.proofs.Common.{List, rules, ◌≡◌, ◌<◌, true, false, Ok, Some, None, All, [], length, map, get_or, refl, sym, ap, subst, ◌∙◌}
 use Rattle.std.specs.Option.{is_some}
 use Rattle.input_tables.specs.Edited.{Edited}
-use Rattle.rerun_records.specs.Record.{PlainRecord}
+use Rattle.record_theory.specs.Record.{PlainRecord}
 use Rattle.activations.specs.Given.{setting_over}
 use Rattle.numbered_runs.specs.Named.{book_step}
 use Rattle.stepped_runs.specs.Pieces.{stolen_from}

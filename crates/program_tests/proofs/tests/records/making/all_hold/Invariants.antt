@@ -1,6 +1,6 @@
 use Rattle.std.proofs.Common.{◌≡◌, drop}
 use Rattle.meaning.specs.Every.{every}
-use Rattle.rerun_records.specs.Validity.{record_holds}
+use Rattle.record_theory.specs.Validity.{record_holds}
 use Rattle.program_tests.proofs.tests.records.making.all_hold.Given as goal
 
 abbrev pub invariant-loop-record : goal.invariant-loop-record

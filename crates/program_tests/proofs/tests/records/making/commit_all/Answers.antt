@@ -1,8 +1,8 @@
 use Rattle.std.proofs.Common.{sym, ◌∙◌}
 use Rattle.meaning.specs.Every.{every}
-use Rattle.rerun_records.specs.Validity.{note_agrees, has_revision, record_holds}
-use Rattle.rerun_records.specs.InStep.{reads_agree}
-use Rattle.rerun_records.proofs.Members.{left_is, every_weaker}
+use Rattle.record_theory.specs.Validity.{note_agrees, has_revision, record_holds}
+use Rattle.record_theory.specs.InStep.{reads_agree}
+use Rattle.record_theory.proofs.Members.{left_is, every_weaker}
 use Rattle.program_tests.proofs.tests.records.making.commit_all.Goals as goal
 
 pub commit-requires-clause-read_now : goal.commit-requires-clause-read_now

@@ -1,0 +1,82 @@
+//! Rows that hold all that some records have read.
+ghost use Rattle.std.specs.Prelude.{◌≡◌, ℕ, List, Some, IfOk, OnOk, slice_get, true};
+ghost use Rattle.evaluation.specs.declared.note.Note.{Note as PlainNote};
+ghost use Rattle.meaning.specs.Every.{every};
+ghost use Rattle.instance_records.specs.declared.spans.Span.{Span as PlainSpan};
+ghost use Rattle.instance_records.specs.Spans.{is_covered_by, is_touched};
+
+use crate::readings::Readings;
+use crate::record::Record;
+use crate::spans::{Span, are_touched, put_spans, reach};
+use std::alloc::{AllocError, Global};
+use std::marker::Model;
+
+/// Stretches of rows, one for each table.
+#[derive(Drop)]
+pub struct Hull {
+    spans: Vec<Span>,
+}
+
+impl Model for Hull {
+    ghost use Rattle.std.specs.Prelude.{List};
+    ghost use Rattle.instance_records.specs.declared.spans.Span.{Span};
+
+    ghost Value = { List Span };
+
+    ghost view = { λ h. h.spans.items };
+}
+
+impl Hull {
+    /// The rows of what these records have read, without spare room.
+    pub fn of(alloc: Global, records: &[Record]) -> Result<Hull, AllocError>
+        ensures held { IfOk result (λ h.
+            every (λ r. every (is_covered_by h) r.reads) records.now ≡ true) }
+    {
+        let mut spans = Vec::new(alloc);
+        for record in records {
+            record.reads().put_rows(&mut spans)?;
+        }
+        spans.shrink_to_fit();
+        Ok(Hull { spans })
+    }
+
+    /// The rows of these hulls together, without spare room.
+    pub fn joined(alloc: Global, hulls: &[Hull]) -> Result<Hull, AllocError>
+        ensures held { IfOk result (λ h. (i : ℕ) (g : List PlainSpan) (note : PlainNote)
+            → slice_get hulls.now i ≡ Some g → is_covered_by g note ≡ true
+            → is_covered_by h note ≡ true) }
+    {
+        let mut spans = Vec::new(alloc);
+        for hull in hulls {
+            put_spans(&hull.spans, &mut spans)?;
+        }
+        spans.shrink_to_fit();
+        Ok(Hull { spans })
+    }
+
+    /// Puts in the rows of what was read; where memory is refused some of them are in and others aren't.
+    pub fn widen(&mut self, reads: &Readings) -> Result<(), AllocError>
+        ensures kept { OnOk result ((note : PlainNote) → is_covered_by self.old note ≡ true
+            → is_covered_by self.new note ≡ true) }
+        ensures put { OnOk result (every (is_covered_by self.new) reads.now ≡ true) }
+    {
+        reads.put_rows(&mut self.spans)
+    }
+
+    /// Whether it has a row with which the other begins.
+    pub fn reaches_over(&self, before: &Hull) -> bool {
+        before.is_reached_by(&self.spans)
+    }
+
+    /// Whether these spans have a row with which it begins.
+    pub(crate) fn is_reached_by(&self, spans: &[Span]) -> bool {
+        reach(spans, &self.spans)
+    }
+
+    /// Whether one of these changes, each given by its table's number and the row, lies in it.
+    pub fn is_touched(&self, changes: &[(usize, i64)]) -> bool
+        ensures touched { result ≡ is_touched self.now changes.now }
+    {
+        are_touched(&self.spans, changes)
+    }
+}

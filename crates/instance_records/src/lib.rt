@@ -1,0 +1,14 @@
+//! The record of one memo instance: what it came to, and what it has read.
+#![tactic(auto)]
+
+pub mod hull;
+pub mod key;
+pub mod narrowing;
+mod pairs;
+pub mod readings;
+pub mod record;
+pub mod short_list;
+pub mod spans;
+mod touching;
+mod walks;
+pub mod ways;

@@ -1,0 +1,566 @@
+//! What instances have read, each by reference to what the instances below it have.
+ghost use Rattle.std.specs.Prelude.{◌≡◌, ◌≤◌, ◌++◌, ◌∷◌, [], IfOk, IfSome, OnOk, length, map, not, true, false};
+ghost use Rattle.std.specs.List.{flat_map};
+ghost use Rattle.meaning.specs.Every.{every};
+ghost use Rattle.evaluation.specs.declared.note.Note.{Note as PlainNote};
+ghost use Rattle.evaluation.specs.declared.note.Note.TheVariants.{Cell, Sum};
+ghost use Rattle.evaluation.specs.Short.{note_of};
+ghost use Rattle.instance_records.specs.Spans.{is_covered_by};
+ghost use Rattle.instance_records.specs.Readings.{all_of, node_notes, shared_notes, held_notes, is_covered, is_covered_share, is_covered_below};
+ghost use Rattle.instance_records.specs.ShortLists.{items_in};
+ghost use Rattle.record_theory.specs.Validity.{note_agrees};
+ghost use Rattle.record_theory.specs.InStep.{is_apart};
+ghost use Rattle.record_theory.specs.Counts.{how_many};
+ghost use Rattle.record_theory.specs.Same.{is_read, same_note};
+
+use crate::hull::Hull;
+use crate::narrowing::{how_many, how_many_own, lowest, touched_own};
+use crate::pairs::{are_pairs, with_pairs};
+use crate::short_list::ShortList;
+use crate::spans::{Span, may_have, put_pair, put_read, put_spans};
+use crate::touching::{are_own_touched, node_is_touched};
+use crate::walks::{node_agrees, put_notes, put_own, reads_agree};
+use crate::ways::{HERE, own_by, way_to};
+use evaluation::note::Note;
+use evaluation::reading::Reading;
+use input_tables::Tables;
+use std::alloc::{AllocError, Global};
+use std::marker::Model;
+use std::slice;
+use std::sync::Arc;
+
+/// So many own readings at most are looked through one by one. More of them lie below by themselves, to be passed over by their rows.
+const FEW: usize = 4;
+
+/// What an instance has read of its own, and what those below it have. Most have none below, so that lies by itself.
+#[cycle(parts)]
+#[derive(Drop)]
+pub(crate) struct Node {
+    pub(crate) own: ShortList<Reading>,
+    pub(crate) below: Option<Box<Below>>,
+}
+
+/// The parts, which are some, and spans of rows that hold all that they and those below them have read.
+#[cycle(parts)]
+#[derive(Drop)]
+pub(crate) struct Below {
+    pub(crate) parts: Vec<Arc<Node>>,
+    pub(crate) spans: Vec<Span>,
+}
+
+/// Two readings with none below them, which take no memory of their own, or a node.
+#[derive(Drop)]
+pub(crate) enum Held {
+    Two([Reading; 2]),
+    Shared(Arc<Node>),
+}
+
+/// What an instance and those below it have read: its own readings, and those of instances below it by reference, so that none of
+/// these is copied.
+#[derive(Drop)]
+pub struct Readings {
+    held: Held,
+}
+
+impl Model for Readings {
+    ghost use Rattle.std.specs.Prelude.{◌≡◌, true, List};
+    ghost use Rattle.evaluation.specs.declared.note.Note.{Note};
+    ghost use Rattle.instance_records.specs.Readings.{notes_in, is_covered_in};
+
+    ghost Value = { List Note };
+
+    ghost view = { λ r. notes_in r.held };
+
+    ghost invariant = { λ r. is_covered_in r.held ≡ true };
+}
+
+impl Readings {
+    /// An instance's own readings, then those of the parts. Nothing keeps spare room.
+    pub fn new(
+        alloc: Global,
+        own: ShortList<Reading>,
+        parts: Vec<Readings>,
+    ) -> Result<Readings, AllocError>
+        ensures made { IfOk result (λ r. r ≡ map note_of (items_in own) ++ all_of parts.items) }
+    {
+        if are_pairs(&parts) {
+            return Readings::of_pairs(alloc, own, parts);
+        }
+        match own {
+            ShortList::Two(pair) => Readings::of_pair(alloc, pair, parts),
+            other => Readings::of_list(alloc, other, parts),
+        }
+    }
+
+    /// Two readings of an instance that has none below it. It takes no memory.
+    #[inline(always)]
+    pub fn of_two(pair: [Reading; 2]) -> Readings
+        ensures same { result ≡ map note_of pair }
+    {
+        Readings {
+            held: Held::Two(pair),
+        }
+    }
+
+    // An instance's own readings, then those of parts that are of two each, all in one list: a node for each part takes more memory.
+    #[inline(never)]
+    fn of_pairs(
+        alloc: Global,
+        own: ShortList<Reading>,
+        parts: Vec<Readings>,
+    ) -> Result<Readings, AllocError>
+        ensures made { IfOk result (λ r. r ≡ map note_of (items_in own) ++ all_of parts.items) }
+    {
+        let all = with_pairs(alloc, own.as_slice(), &parts)?;
+        Readings::of_list(alloc, ShortList::new(all), Vec::new(alloc))
+    }
+
+    /// Whether these are two readings that lie by themselves.
+    #[inline(always)]
+    pub(crate) fn is_pair(&self) -> bool {
+        match &self.held {
+            Held::Two(_) => true,
+            Held::Shared(_) => false,
+        }
+    }
+
+    /// Puts copies of these two readings behind others; refused where they lie in a node.
+    #[inline(always)]
+    pub(crate) fn put_pair(&self, all: &mut Vec<Reading>) -> Result<(), AllocError>
+        ensures put { OnOk result (map note_of all.new.items ≡ map note_of all.old.items ++ self.now) }
+    {
+        match &self.held {
+            Held::Two(pair) => all.extend_from_slice(pair),
+            Held::Shared(_) => Err(AllocError),
+        }
+    }
+
+    // Two readings, then those of the parts.
+    fn of_pair(
+        alloc: Global,
+        pair: [Reading; 2],
+        parts: Vec<Readings>,
+    ) -> Result<Readings, AllocError>
+        ensures made { IfOk result (λ r. r ≡ map note_of pair ++ all_of parts.items) }
+    {
+        if parts.is_empty() {
+            return Ok(Readings::of_two(pair));
+        }
+        Readings::of(alloc, ShortList::Two(pair), parts)
+    }
+
+    // As many readings as there are, then those of the parts.
+    fn of_list(
+        alloc: Global,
+        mut own: ShortList<Reading>,
+        parts: Vec<Readings>,
+    ) -> Result<Readings, AllocError>
+        ensures made { IfOk result (λ r. r ≡ map note_of (items_in own) ++ all_of parts.items) }
+    {
+        own.shrink_to_fit();
+        if own.as_slice().len() > FEW {
+            return Readings::of_many(alloc, own, parts);
+        }
+        Readings::of(alloc, own, parts)
+    }
+
+    // Many own readings as the first of the parts, whose rows the spans hold.
+    #[inline(never)]
+    fn of_many(
+        alloc: Global,
+        own: ShortList<Reading>,
+        mut parts: Vec<Readings>,
+    ) -> Result<Readings, AllocError>
+        ensures made { IfOk result (λ r. r ≡ map note_of (items_in own) ++ all_of parts.items) }
+    {
+        let first = Readings::of(alloc, own, Vec::new(alloc))?;
+        parts.insert(0, first)?;
+        Readings::of(alloc, ShortList::new(Vec::new(alloc)), parts)
+    }
+
+    // These as a node's own readings, with the parts below it.
+    #[inline(always)]
+    fn of(
+        alloc: Global,
+        own: ShortList<Reading>,
+        parts: Vec<Readings>,
+    ) -> Result<Readings, AllocError>
+        ensures made { IfOk result (λ r. r ≡ map note_of (items_in own) ++ all_of parts.items) }
+    {
+        let node = Node {
+            own,
+            below: make_below(alloc, parts)?,
+        };
+        Ok(Readings {
+            held: Held::Shared(Arc::new(alloc, node)?),
+        })
+    }
+
+    /// A second owner of these readings, of which no more than two are copied.
+    #[inline(always)]
+    pub fn share(&self) -> Result<Readings, AllocError>
+        ensures same { IfOk result (λ r. r ≡ self.now) }
+    {
+        match &self.held {
+            Held::Two(pair) => Ok(Readings::of_two(*pair)),
+            Held::Shared(node) => Ok(Readings {
+                held: Held::Shared(Arc::try_clone(node)?),
+            }),
+        }
+    }
+
+    // The node of these readings, which is made of two.
+    fn into_node(self, alloc: Global) -> Result<Arc<Node>, AllocError>
+        ensures notes { IfOk result (λ n. shared_notes n ≡ self) }
+        ensures covered { IfOk result (λ n. is_covered_share n ≡ true) }
+    {
+        match self.held {
+            Held::Two(pair) => {
+                let own = ShortList::Two(pair);
+                Ok(Arc::new(alloc, Node { own, below: None })?)
+            }
+            Held::Shared(node) => Ok(node),
+        }
+    }
+
+    /// Whether the tables hold what was read. It takes no memory.
+    pub fn agree(&self, tables: &Tables) -> bool
+        ensures agree { result ≡ every (note_agrees tables.now.tables) self.now }
+    {
+        match &self.held {
+            Held::Two(pair) => reads_agree(pair, tables),
+            Held::Shared(node) => node_agrees(node, tables),
+        }
+    }
+
+    /// Whether one of these changes, each given by its table's number and the row, may have changed what was read, by its own
+    /// readings and the spans of the others.
+    pub fn are_touched(&self, changes: &[(usize, i64)]) -> bool
+        ensures apart { result ≡ false → every (is_apart changes.now) self.now ≡ true }
+    {
+        match &self.held {
+            Held::Two(pair) => are_own_touched(pair, changes),
+            Held::Shared(node) => node_is_touched(node, changes),
+        }
+    }
+
+    /// Whether that was read. It takes no memory, and passes over parts that read none of its rows.
+    pub fn has(&self, note: &Note) -> bool
+        ensures has { result ≡ is_read self.now note.now }
+    {
+        match &self.held {
+            Held::Two(pair) => has_own(pair, note),
+            Held::Shared(node) => node_has(node, note),
+        }
+    }
+
+    /// Whether what instances below have read reaches over the rows with which that hull begins.
+    pub fn reach_over(&self, hull: &Hull) -> bool {
+        match &self.held {
+            Held::Two(_) => false,
+            Held::Shared(node) => node_reaches(node, hull),
+        }
+    }
+
+    /// How many of these readings and how many of those were read, all of which rest on the change. It takes no memory, and looks for
+    /// them in the lowest instance that has read all that the change may have changed.
+    pub fn how_many(&self, change: &(usize, i64), lost: &[Note], won: &[Note]) -> (u64, u64)
+        requires rest { every (λ n. not (is_apart (change.now ∷ []) n)) (lost.now ++ won.now) ≡ true }
+        ensures lost { result.0 ≡ how_many same_note lost.now self.now }
+        ensures won { result.1 ≡ how_many same_note won.now self.now }
+        ensures few { result.0 ≤ length lost.now }
+    {
+        match &self.held {
+            Held::Two(pair) => (how_many_own(pair, lost), how_many_own(pair, won)),
+            Held::Shared(node) => how_many(lowest(node, change), change, lost, won),
+        }
+    }
+
+    /// The readings from the first to the last that rests on the change, of the lowest instance that has read all that the change may have
+    /// changed; none, where instances below that one have read some of it. It takes no memory.
+    pub fn touched(&self, change: &(usize, i64)) -> Option<&[Reading]>
+        ensures same { IfSome result (λ own. (note : PlainNote) → is_apart (change.now ∷ []) note ≡ false
+            → is_read (map note_of own.now) note ≡ is_read self.now note) }
+    {
+        match &self.held {
+            Held::Two(pair) => Some(pair),
+            Held::Shared(node) => touched_own(lowest(node, change), change),
+        }
+    }
+
+    /// The turns from there down to readings of one instance's own that may rest on the change, as `own_by` takes them.
+    pub fn way_to(&self, change: &(usize, i64)) -> u64 {
+        match &self.held {
+            Held::Two(_) => HERE,
+            Held::Shared(node) => way_to(node, change),
+        }
+    }
+
+    /// The own readings of the instance to which these turns lead.
+    #[inline(always)]
+    pub fn own_by(&self, turns: u64) -> Option<&[Reading]>
+        ensures read { IfSome result (λ own. (note : PlainNote)
+            → is_read (map note_of own.now) note ≡ true → is_read self.now note ≡ true) }
+    {
+        match &self.held {
+            Held::Two(pair) => Some(pair),
+            Held::Shared(node) => own_by(node, turns),
+        }
+    }
+
+    /// Joins spans with the rows of what was read.
+    pub(crate) fn put_rows(&self, spans: &mut Vec<Span>) -> Result<(), AllocError>
+        ensures kept { OnOk result ((note : PlainNote) → is_covered_by spans.old.items note ≡ true
+            → is_covered_by spans.new.items note ≡ true) }
+        ensures put { OnOk result (every (is_covered_by spans.new.items) self.now ≡ true) }
+    {
+        match &self.held {
+            Held::Two(pair) => put_pair(pair, spans),
+            Held::Shared(node) => put_node(node, spans),
+        }
+    }
+
+    /// Copies of all of them, in order: for who looks at a record from outside.
+    pub fn notes(&self, alloc: Global) -> Result<Vec<Note>, AllocError>
+        ensures notes { IfOk result (λ ns. ns.items ≡ self.now) }
+    {
+        let mut notes = Vec::new(alloc);
+        match &self.held {
+            Held::Two(pair) => put_own(pair, &mut notes)?,
+            Held::Shared(node) => put_notes(node, &mut notes)?,
+        }
+        Ok(notes)
+    }
+}
+
+// Whether what instances below have read reaches over the rows with which that hull begins.
+fn node_reaches(node: &Node, hull: &Hull) -> bool {
+    match &node.below {
+        Some(below) => hull.is_reached_by(&below.spans),
+        None => false,
+    }
+}
+
+// These readings below an instance, if there are any.
+fn make_below(alloc: Global, parts: Vec<Readings>) -> Result<Option<Box<Below>>, AllocError>
+    ensures below { IfOk result (λ b. held_notes b ≡ all_of parts.items) }
+    ensures covered { IfOk result (λ b. is_covered_below b ≡ true) }
+{
+    if parts.is_empty() {
+        return Ok(None);
+    }
+    let mut spans = Vec::new(alloc);
+    let parts = nodes(alloc, parts, &mut spans)?;
+    spans.shrink_to_fit();
+    Ok(Some(Box::new(alloc, Below { parts, spans })?))
+}
+
+// The nodes of these readings, without spare room; the rows of all that was read there are put into the spans.
+fn nodes(
+    alloc: Global,
+    parts: Vec<Readings>,
+    spans: &mut Vec<Span>,
+) -> Result<Vec<Arc<Node>>, AllocError>
+    ensures nodes { IfOk result (λ ns. flat_map shared_notes ns.items ≡ all_of parts.items) }
+    ensures each { IfOk result (λ ns. every is_covered_share ns.items ≡ true) }
+    ensures spans { IfOk result (λ ns.
+        every (is_covered_by spans.new.items) (flat_map shared_notes ns.items) ≡ true) }
+{
+    let mut nodes = Vec::new(alloc);
+    nodes.reserve_exact(parts.len())?;
+    for part in parts {
+        let node = part.into_node(alloc)?;
+        put_node(&node, spans)?;
+        nodes.push(node)?;
+    }
+    Ok(nodes)
+}
+
+// Joins spans with the rows of what was read there and below: its parts aren't asked, since their rows lie in its own spans.
+fn put_node(node: &Node, spans: &mut Vec<Span>) -> Result<(), AllocError>
+    requires covered { is_covered node.now ≡ true }
+    ensures kept { OnOk result ((note : PlainNote) → is_covered_by spans.old.items note ≡ true
+        → is_covered_by spans.new.items note ≡ true) }
+    ensures put { OnOk result (every (is_covered_by spans.new.items) (node_notes node.now) ≡ true) }
+{
+    put_read(node.own.as_slice(), spans)?;
+    match &node.below {
+        Some(below) => put_spans(&below.spans, spans),
+        None => Ok(()),
+    }
+}
+
+/// Whether that was read there or below. Where its rows lie in no span, the parts aren't asked.
+#[cycle(having)]
+pub(crate) fn node_has(node: &Node, note: &Note) -> bool
+    requires covered { is_covered node.now ≡ true }
+    ensures has { result ≡ is_read (node_notes node.now) note.now }
+{
+    if has_own(node.own.as_slice(), note) {
+        return true;
+    }
+    match &node.below {
+        Some(below) => {
+            if may_have(&below.spans, note) {
+                parts_have(&below.parts, note)
+            } else {
+                false
+            }
+        }
+        None => false,
+    }
+}
+
+#[cycle(having)]
+fn parts_have(parts: &[Arc<Node>], note: &Note) -> bool
+    requires covered { every is_covered_share parts.now ≡ true }
+    ensures have { result ≡ is_read (flat_map shared_notes parts.now) note.now }
+{
+    for part in parts {
+        if node_has(part, note) {
+            return true;
+        }
+    }
+    false
+}
+
+/// Whether that is one of these readings.
+pub(crate) fn has_own(own: &[Reading], note: &Note) -> bool
+    ensures has { result ≡ is_read (map note_of own.now) note.now }
+{
+    match note {
+        Note::Cell {
+            table,
+            row,
+            column,
+            value,
+        } => have_cell(own, *table, *row, *column, *value),
+        Note::Sum {
+            table,
+            column,
+            value,
+        } => have_sum(own, *table, *column, *value),
+        _ => have_other(own, note),
+    }
+}
+
+// Whether one of these readings is of that cell with that value. No notes are made of them, here and below.
+fn have_cell(own: &[Reading], table: usize, row: i64, column: usize, value: i64) -> bool
+    ensures have { result ≡ is_read (map note_of own.now) (Cell table row column value) }
+{
+    for reading in own {
+        if is_cell(reading, table, row, column, value) {
+            return true;
+        }
+    }
+    false
+}
+
+// Whether one of these readings is of that sum.
+fn have_sum(own: &[Reading], table: usize, column: usize, value: i64) -> bool
+    ensures have { result ≡ is_read (map note_of own.now) (Sum table column value) }
+{
+    for reading in own {
+        if is_sum(reading, table, column, value) {
+            return true;
+        }
+    }
+    false
+}
+
+// Whether one of these readings is that one.
+fn have_other(own: &[Reading], note: &Note) -> bool
+    ensures have { result ≡ is_read (map note_of own.now) note.now }
+{
+    for reading in own {
+        if is_same(note, &reading.note()) {
+            return true;
+        }
+    }
+    false
+}
+
+// Whether the reading is of that cell with that value.
+#[inline(always)]
+fn is_cell(reading: &Reading, table: usize, row: i64, column: usize, value: i64) -> bool
+    ensures cell { result ≡ same_note (Cell table row column value) (note_of reading.now) }
+{
+    match reading {
+        Reading::Cell {
+            column: under,
+            table: of,
+            row: at,
+            value: held,
+        } => {
+            // The value differs most often, so it is compared first.
+            if value != *held {
+                return false;
+            }
+            if column != usize::from(*under) {
+                return false;
+            }
+            row == i64::from(*at) && table == usize::from(*of)
+        }
+        _ => false,
+    }
+}
+
+// Whether the reading is of that sum.
+#[inline(always)]
+fn is_sum(reading: &Reading, table: usize, column: usize, value: i64) -> bool
+    ensures sum { result ≡ same_note (Sum table column value) (note_of reading.now) }
+{
+    match reading {
+        Reading::Sum {
+            column: under,
+            table: of,
+            value: held,
+        } => table == usize::from(*of) && (column == usize::from(*under) && value == *held),
+        _ => false,
+    }
+}
+
+/// Whether these readings are those, one by one.
+pub fn are_same(own: &[Reading], others: &[Reading]) -> bool
+    ensures same { result ≡ true → map note_of own.now ≡ map note_of others.now }
+{
+    if own.len() != others.len() {
+        return false;
+    }
+    for place in 0..own.len() {
+        if !is_like(&own[place], &others[place]) {
+            return false;
+        }
+    }
+    true
+}
+
+// Whether two readings are the same. Most are of cells, and no notes are made of these.
+#[inline(always)]
+fn is_like(reading: &Reading, other: &Reading) -> bool
+    ensures like { result ≡ same_note (note_of reading.now) (note_of other.now) }
+{
+    match reading {
+        Reading::Cell {
+            column,
+            table,
+            row,
+            value,
+        } => is_cell(
+            other,
+            usize::from(*table),
+            i64::from(*row),
+            usize::from(*column),
+            *value,
+        ),
+        _ => is_same(&reading.note(), &other.note()),
+    }
+}
+
+// Whether two notes are the same.
+#[tactic(auto, using(record_theory::proofs::Same::derived_same))]
+fn is_same(note: &Note, other: &Note) -> bool
+    ensures same { result ≡ same_note note.now other.now }
+{
+    *note == *other
+}

@@ -1,0 +1,227 @@
+//! The record of a memo instance that is over.
+ghost use Rattle.std.specs.Prelude.{◌≡◌, ◌+◌, ◌&&◌, suc, map, nat_eq, nat_le, ◌++◌};
+ghost use Rattle.std.specs.Cmp.Lexicographic.{pointwise};
+ghost use Rattle.std.specs.Cmp.Rules.{comparing, hashing};
+ghost use Rattle.std.specs.Hash as fed;
+ghost use Rattle.std.specs.Ordering.{on, eq_of_both, int_eq};
+ghost use Rattle.std.proofs.Common.{rules};
+ghost use Rattle.meaning.specs.Elision.{depth_limit};
+ghost use Rattle.meaning.specs.Every.{every};
+ghost use Rattle.record_theory.specs.Record.{touched, made_of, as_made};
+ghost use Rattle.instance_records.specs.ShortLists.{items_in};
+ghost use Rattle.record_theory.specs.Validity.{has_revision, record_holds};
+
+use crate::readings::Readings;
+use crate::short_list::ShortList;
+use input_tables::Tables;
+use linked_program::checked::Checked;
+use monoid_laws::Val;
+use record_numbers::depths::fits;
+use std::hash::{Hash, Hasher};
+use std::marker::Model;
+
+/// What a memo instance came to, and what that rests on. Records are equal where they are of one procedure with the same
+/// arguments, whatever else they hold.
+#[derive(Drop)]
+pub struct Record {
+    procedure: usize,
+    arguments: ShortList<i64>,
+    value: i64,
+    contribution: ShortList<(usize, Val)>,
+    reads: Readings,
+    entered: ShortList<(usize, u64)>,
+    height: u32,
+}
+
+impl Model for Record {
+    ghost use Rattle.std.specs.Prelude.{map};
+    ghost use Rattle.record_theory.specs.Record.{PlainRecord, touched};
+    ghost use Rattle.instance_records.specs.ShortLists.{items_in};
+
+    ghost Value = { PlainRecord };
+
+    ghost view = { λ r. record {
+      procedure = r.procedure;
+      arguments = items_in r.arguments;
+      value = r.value;
+      contribution = map touched (items_in r.contribution);
+      reads = r.reads;
+      entered = items_in r.entered;
+      height = r.height;
+      stale = 0;
+    } };
+}
+
+impl Record {
+    /// The record of an instance of that procedure with these arguments: its value, the value that it gave to each reducer that it
+    /// touched, each reading once, each procedure entered once with its revision number, and how many instances were nested in
+    /// it at most, itself counted. Reducers and procedures go by their numbers. It takes no memory, and keeps no spare room.
+    pub fn new(
+        procedure: usize,
+        mut arguments: ShortList<i64>,
+        value: i64,
+        mut contribution: Vec<(usize, Val)>,
+        reads: Readings,
+        mut entered: ShortList<(usize, u64)>,
+        height: u32,
+    ) -> Record
+        ensures made { result ≡ made_of procedure (items_in arguments) value contribution.items reads
+            (items_in entered) height }
+    {
+        arguments.shrink_to_fit();
+        contribution.shrink_to_fit();
+        entered.shrink_to_fit();
+        Record::of_values(
+            procedure,
+            arguments,
+            value,
+            ShortList::new(contribution),
+            reads,
+            entered,
+            height,
+        )
+    }
+
+    /// The record of its parts as `new` makes it, where these have no spare room, and one or two values lie by themselves.
+    #[inline(always)]
+    pub fn of_values(
+        procedure: usize,
+        arguments: ShortList<i64>,
+        value: i64,
+        contribution: ShortList<(usize, Val)>,
+        reads: Readings,
+        entered: ShortList<(usize, u64)>,
+        height: u32,
+    ) -> Record
+        ensures made { result ≡ made_of procedure (items_in arguments) value (items_in contribution)
+            reads (items_in entered) height }
+    {
+        Record {
+            procedure,
+            arguments,
+            value,
+            contribution,
+            reads,
+            entered,
+            height,
+        }
+    }
+
+    /// What the type keeps: nothing is counted of a record on its own.
+    pub fn as_made(&self)
+        ensures as_made { as_made self.now ≡ self.now }
+    {
+        let _ = &self.value;
+    }
+
+    /// The number of the procedure.
+    pub fn procedure(&self) -> usize
+        ensures procedure { result ≡ self.now.procedure }
+    {
+        self.procedure
+    }
+
+    /// Lends the arguments.
+    pub fn arguments(&self) -> &[i64]
+        ensures arguments { result.now ≡ self.now.arguments }
+    {
+        self.arguments.as_slice()
+    }
+
+    /// The instance's value.
+    pub fn value(&self) -> i64
+        ensures value { result ≡ self.now.value }
+    {
+        self.value
+    }
+
+    /// Lends the values that the instance gave to the reducers that it touched, each with the reducer's number.
+    pub fn contribution(&self) -> &[(usize, Val)]
+        ensures contribution { map touched result.now ≡ self.now.contribution }
+    {
+        self.contribution.as_slice()
+    }
+
+    /// Lends what was read.
+    pub fn reads(&self) -> &Readings
+        ensures reads { result.now ≡ self.now.reads }
+    {
+        &self.reads
+    }
+
+    /// Lends the numbers of the procedures entered, each with its revision number.
+    pub fn entered(&self) -> &[(usize, u64)]
+        ensures entered { result.now ≡ self.now.entered }
+    {
+        self.entered.as_slice()
+    }
+
+    /// How many instances were nested at most, this one counted.
+    pub fn height(&self) -> u32
+        ensures height { result ≡ self.now.height }
+    {
+        self.height
+    }
+
+    /// Whether the tables hold what was read, and the procedures entered are as they were.
+    pub fn holds_now(&self, tables: &Tables, program: &Checked) -> bool
+        ensures holds { result ≡ record_holds program.now.revisions tables.now.tables self.now }
+    {
+        self.reads.agree(tables) && are_current(self.entered(), program)
+    }
+
+    /// Whether the procedures entered are as they were, and an instance at that depth with as many nested in it stays within the
+    /// limit.
+    pub fn is_allowed(&self, depth: u32, program: &Checked) -> bool
+        ensures allowed { result ≡ (every (has_revision program.now.revisions) self.now.entered
+            && nat_le (depth + self.now.height) (suc depth_limit)) }
+    {
+        are_current(self.entered(), program) && fits(depth, self.height)
+    }
+}
+
+// Whether these procedures have these revision numbers.
+fn are_current(entered: &[(usize, u64)], program: &Checked) -> bool
+    ensures current { result ≡ every (has_revision program.now.revisions) entered.now }
+{
+    for entry in entered {
+        if !is_current(entry.0, entry.1, program) {
+            return false;
+        }
+    }
+    true
+}
+
+fn is_current(procedure: usize, revision: u64, program: &Checked) -> bool
+    ensures current { result ≡ has_revision program.now.revisions (procedure, revision) }
+{
+    match program.revision_at(procedure) {
+        Some(now) => now == revision,
+        None => false,
+    }
+}
+
+impl PartialEq for Record {
+    ghost eq = { eq_of_both (on (λ r. r.procedure) nat_eq) (on (λ r. r.arguments) (pointwise int_eq)) };
+
+    ghost laws = { Prim.search (comparing, rules) };
+
+    fn eq(&self, other: &Record) -> bool {
+        self.procedure == other.procedure && self.arguments() == other.arguments()
+    }
+}
+
+impl Eq for Record {
+    ghost laws = { Prim.search (comparing, rules) };
+}
+
+impl Hash for Record {
+    ghost hash_input = { λ r. fed.usize r.procedure ++ fed.slice fed.i64 r.arguments };
+
+    ghost respects_eq = { Prim.search (hashing, rules) };
+
+    fn hash<H: Hasher>(&self, state: &mut H) {
+        state.write_usize(self.procedure);
+        self.arguments().hash(state);
+    }
+}

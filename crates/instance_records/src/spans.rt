@@ -1,0 +1,243 @@
+//! Stretches of rows in which what was read lies, one for each table.
+ghost use Rattle.std.specs.Prelude.{◌≡◌, IfOk, IfSome, OnOk, Some, map, nat_eq, pos, false, true};
+ghost use Rattle.std.specs.List.{list_any};
+ghost use Rattle.evaluation.specs.declared.note.Note.{Note as PlainNote};
+ghost use Rattle.evaluation.specs.Short.{note_of};
+ghost use Rattle.meaning.specs.Every.{every};
+ghost use Rattle.instance_records.specs.Spans.{span_of, has_row, covers, lies_in, joined, put_span, put_spans, is_covered_by, is_touched};
+
+use evaluation::note::Note;
+use evaluation::reading::Reading;
+use std::alloc::AllocError;
+use std::slice;
+
+/// The rows of a table from the lowest that was read to the greatest; all of them, where its limit or a sum was.
+#[derive(Clone, Copy)]
+pub struct Span {
+    table: u16,
+    whole: bool,
+    low: i64,
+    high: i64,
+}
+
+impl Span {
+    // The rows that a reading rests on.
+    fn new(reading: &Reading) -> Span
+        ensures span { result ≡ span_of reading.now }
+    {
+        match reading {
+            Reading::Cell { table, row, .. } => Span::one(*table, i64::from(*row)),
+            Reading::Has { table, row, .. } => Span::one(*table, *row),
+            Reading::Limit { table, .. } => Span::whole(*table),
+            Reading::Sum { table, .. } => Span::whole(*table),
+        }
+    }
+
+    // One row.
+    fn one(table: u16, row: i64) -> Span
+        ensures one { result ≡ record { table = table; whole = false; low = row; high = row } }
+    {
+        Span {
+            table,
+            whole: false,
+            low: row,
+            high: row,
+        }
+    }
+
+    // All rows.
+    fn whole(table: u16) -> Span
+        ensures whole { result ≡ record { table = table; whole = true; low = pos 0; high = pos 0 } }
+    {
+        Span {
+            table,
+            whole: true,
+            low: 0,
+            high: 0,
+        }
+    }
+
+    // The rows of both, and those between.
+    fn joined(&self, other: &Span) -> Span
+        ensures joined { result ≡ joined self.now other.now }
+    {
+        Span {
+            table: self.table,
+            whole: self.whole || other.whole,
+            low: self.low.min(other.low),
+            high: self.high.max(other.high),
+        }
+    }
+
+    // Whether these are the rows of the other.
+    #[inline(always)]
+    fn is_same(&self, other: &Span) -> bool
+        ensures same { result ≡ true → self.now ≡ other.now }
+    {
+        self.low == other.low
+            && self.high == other.high
+            && self.table == other.table
+            && self.whole == other.whole
+    }
+
+    // Whether its rows are all that was read so rests on.
+    fn covers(&self, note: &Note) -> bool
+        ensures covers { result ≡ covers note.now self.now }
+    {
+        match note {
+            Note::Cell { table, row, .. } => self.is_of(*table) && self.has_row(*row),
+            Note::Has { table, row, .. } => self.is_of(*table) && self.has_row(*row),
+            Note::Limit { table, .. } => self.is_of(*table) && self.whole,
+            Note::Sum { table, .. } => self.is_of(*table) && self.whole,
+        }
+    }
+
+    // Whether it is one of the table of that number.
+    fn is_of(&self, table: usize) -> bool
+        ensures of { result ≡ nat_eq self.now.table table }
+    {
+        usize::from(self.table) == table
+    }
+
+    // Whether it has that row.
+    fn has_row(&self, row: i64) -> bool
+        ensures has { result ≡ has_row self.now row }
+    {
+        self.whole || self.low <= row && row <= self.high
+    }
+
+    // Whether the changed row, given by its table's number and its own, is one of these.
+    fn has(&self, change: &(usize, i64)) -> bool
+        ensures has { result ≡ lies_in change.now self.now }
+    {
+        usize::from(self.table) == change.0
+            && (self.whole || self.low <= change.1 && change.1 <= self.high)
+    }
+}
+
+// Joins it with the span of its table, where there is one.
+fn put_span(span: &Span, spans: &mut Vec<Span>) -> Result<(), AllocError>
+    ensures put { OnOk result (spans.new.items ≡ put_span spans.old.items span.now) }
+{
+    for place in 0..spans.len() {
+        if spans[place].table == span.table {
+            spans[place] = spans[place].joined(span);
+            return Ok(());
+        }
+    }
+    spans.push(*span)?;
+    Ok(())
+}
+
+/// Joins spans with others.
+pub(crate) fn put_spans(more: &[Span], spans: &mut Vec<Span>) -> Result<(), AllocError>
+    ensures put { OnOk result (spans.new.items ≡ put_spans spans.old.items more.now) }
+{
+    for span in more {
+        put_span(span, spans)?;
+    }
+    Ok(())
+}
+
+/// Joins spans with the rows that were read. Readings of one row mostly stand behind one another: it is put in once then.
+pub(crate) fn put_read(own: &[Reading], spans: &mut Vec<Span>) -> Result<(), AllocError>
+    ensures put { OnOk result (spans.new.items ≡ put_spans spans.old.items (map span_of own.now)) }
+{
+    let mut last = None;
+    for reading in own {
+        last = Some(put_behind(reading, last, spans)?);
+    }
+    Ok(())
+}
+
+// Joins spans with the rows of a reading, unless they were joined with the same rows last; the rows that it rests on.
+#[inline(always)]
+#[tactic(auto, using(crate::proofs::Covered::put_twice))]
+fn put_behind(
+    reading: &Reading,
+    last: Option<Span>,
+    spans: &mut Vec<Span>,
+) -> Result<Span, AllocError>
+    requires last { IfSome last (λ s. put_span spans.old.items s ≡ spans.old.items) }
+    ensures put { OnOk result (spans.new.items ≡ put_span spans.old.items (span_of reading.now)) }
+    ensures last { IfOk result (λ s. put_span spans.new.items s ≡ spans.new.items) }
+{
+    let span = Span::new(reading);
+    if is_last(last, &span) {
+        return Ok(span);
+    }
+    put_span(&span, spans)?;
+    Ok(span)
+}
+
+// Whether the last one has the same rows.
+#[inline(always)]
+fn is_last(last: Option<Span>, span: &Span) -> bool
+    ensures last { result ≡ true → last ≡ Some span.now }
+{
+    match last {
+        Some(last) => last.is_same(span),
+        None => false,
+    }
+}
+
+/// Joins spans with the rows of two readings, which most often are of one row.
+pub(crate) fn put_pair(pair: &[Reading; 2], spans: &mut Vec<Span>) -> Result<(), AllocError>
+    ensures kept { OnOk result ((note : PlainNote) → is_covered_by spans.old.items note ≡ true
+        → is_covered_by spans.new.items note ≡ true) }
+    ensures put { OnOk result (every (is_covered_by spans.new.items) (map note_of pair.now) ≡ true) }
+{
+    let first = Span::new(&pair[0]);
+    let second = Span::new(&pair[1]);
+    if first.is_same(&second) {
+        return put_span(&first, spans);
+    }
+    put_span(&first, spans)?;
+    put_span(&second, spans)
+}
+
+/// Whether one of the changed rows lies in one of the spans.
+pub(crate) fn are_touched(spans: &[Span], changes: &[(usize, i64)]) -> bool
+    ensures touched { result ≡ is_touched spans.now changes.now }
+{
+    for span in spans {
+        if has_one(span, changes) {
+            return true;
+        }
+    }
+    false
+}
+
+/// Whether these have a row with which one of the others begins.
+pub(crate) fn reach(spans: &[Span], others: &[Span]) -> bool {
+    for other in others {
+        let begin = (usize::from(other.table), other.low);
+        if !other.whole && are_touched(spans, slice::from_ref(&begin)) {
+            return true;
+        }
+    }
+    false
+}
+
+fn has_one(span: &Span, changes: &[(usize, i64)]) -> bool
+    ensures has { result ≡ list_any (λ c. lies_in c span.now) changes.now }
+{
+    for change in changes {
+        if span.has(change) {
+            return true;
+        }
+    }
+    false
+}
+
+/// Whether one of the spans may hold that reading: its rows lie there.
+pub(crate) fn may_have(spans: &[Span], note: &Note) -> bool
+    ensures has { result ≡ is_covered_by spans.now note.now }
+{
+    for span in spans {
+        if span.covers(note) {
+            return true;
+        }
+    }
+    false
+}

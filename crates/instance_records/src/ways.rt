@@ -1,0 +1,180 @@
+//! The way down from what an instance has read to the readings of one below it, so that those around that one find them by it.
+ghost use Rattle.std.specs.Prelude.{◌≡◌, IfSome, map, option_copied, slice_get, true};
+ghost use Rattle.std.specs.List.{flat_map};
+ghost use Rattle.evaluation.specs.declared.note.Note.{Note as PlainNote};
+ghost use Rattle.evaluation.specs.declared.note.Note.TheVariants.{Cell};
+ghost use Rattle.evaluation.specs.Short.{note_of};
+ghost use Rattle.instance_records.specs.Readings.{node_notes, shared_notes};
+ghost use Rattle.record_theory.specs.Same.{is_read, same_note};
+
+use crate::readings::Node;
+use crate::spans::are_touched;
+use crate::touching::{are_own_touched, rests_on};
+use evaluation::reading::Reading;
+use std::slice;
+use std::sync::Arc;
+
+/// Turns are digits of a number, the first one last, below a leading 1: so each is the number of one of so many parts.
+const PARTS: u64 = 8;
+
+/// No more turns fit into a number.
+const MOST: u64 = 1 << 60;
+
+/// A way has no turns.
+pub(crate) const HERE: u64 = 1;
+
+/// No way.
+pub const NONE: u64 = 0;
+
+/// A cell's readings lie near the first that rests on the change of its row: so many are looked through.
+const NEAR: usize = 4;
+
+/// The way without its first turn: that of the part to which it leads, most often an instance with a record of its own.
+pub fn behind_first(turns: u64) -> u64 {
+    turns / PARTS
+}
+
+/// The turns from there down to readings of one instance's own that may rest on the change.
+#[cycle(finding)]
+pub(crate) fn way_to(node: &Node, change: &(usize, i64)) -> u64 {
+    match &node.below {
+        Some(below) => {
+            if are_own_touched(node.own.as_slice(), slice::from_ref(change)) {
+                return HERE;
+            }
+            way_through(&below.parts, change)
+        }
+        None => HERE,
+    }
+}
+
+#[cycle(finding)]
+fn way_through(parts: &[Arc<Node>], change: &(usize, i64)) -> u64 {
+    for place in 0..parts.len() {
+        if is_near(&parts[place], change) {
+            let rest = way_to(&parts[place], change);
+            return with_turn(place, rest);
+        }
+    }
+    NONE
+}
+
+// The way with that turn before it, if there is room for it.
+fn with_turn(place: usize, rest: u64) -> u64 {
+    let turn = place as u64;
+    if rest == NONE || rest >= MOST || turn >= PARTS {
+        return NONE;
+    }
+    rest.wrapping_mul(PARTS).wrapping_add(turn)
+}
+
+// Whether the change may have changed what was read there or below.
+fn is_near(node: &Node, change: &(usize, i64)) -> bool {
+    if are_own_touched(node.own.as_slice(), slice::from_ref(change)) {
+        return true;
+    }
+    match &node.below {
+        Some(below) => are_touched(&below.spans, slice::from_ref(change)),
+        None => false,
+    }
+}
+
+/// The own readings of the instance to which these turns lead.
+#[cycle(ways)]
+pub(crate) fn own_by(node: &Node, turns: u64) -> Option<&[Reading]>
+    ensures read { IfSome result (λ own. (note : PlainNote)
+        → is_read (map note_of own.now) note ≡ true → is_read (node_notes node.now) note ≡ true) }
+{
+    if turns == HERE {
+        return Some(node.own.as_slice());
+    }
+    match &node.below {
+        Some(below) => own_of(&below.parts, turns),
+        None => None,
+    }
+}
+
+#[cycle(ways)]
+fn own_of(parts: &[Arc<Node>], turns: u64) -> Option<&[Reading]>
+    ensures read { IfSome result (λ own. (note : PlainNote) → is_read (map note_of own.now) note ≡ true
+        → is_read (flat_map shared_notes parts.now) note ≡ true) }
+{
+    let place = (turns % PARTS) as usize;
+    if place >= parts.len() {
+        return None;
+    }
+    own_by(&parts[place], turns / PARTS)
+}
+
+/// The place of the first of these readings that rests on the change.
+pub fn first_touched(own: &[Reading], change: &(usize, i64)) -> usize {
+    for place in 0..own.len() {
+        if rests_on(&own[place], change) {
+            return place;
+        }
+    }
+    own.len()
+}
+
+/// The value with which one of a few readings from that place on was read of that cell.
+#[inline(always)]
+pub fn value_near(
+    own: &[Reading],
+    first: usize,
+    table: usize,
+    row: i64,
+    column: usize,
+) -> Option<i64>
+    ensures read { IfSome result (λ value. is_read (map note_of own.now) (Cell table row column value) ≡ true) }
+{
+    let end = own.len().min(first.saturating_add(NEAR));
+    for place in first..end {
+        match value_at(own, place, table, row, column) {
+            Some(value) => return Some(value),
+            None => {}
+        }
+    }
+    None
+}
+
+// The value of that cell, where it was read so at that place.
+#[inline(always)]
+fn value_at(own: &[Reading], place: usize, table: usize, row: i64, column: usize) -> Option<i64>
+    ensures read { IfSome result (λ value. is_read (map note_of own.now) (Cell table row column value) ≡ true) }
+{
+    match reading_at(own, place) {
+        Some(reading) => value_of(reading, table, row, column),
+        None => None,
+    }
+}
+
+// The reading at that place.
+fn reading_at(own: &[Reading], place: usize) -> Option<&Reading>
+    ensures at { option_copied result ≡ slice_get own.now place }
+{
+    own.get(place)
+}
+
+// The value of that cell, where it was read so.
+#[inline(always)]
+fn value_of(reading: &Reading, table: usize, row: i64, column: usize) -> Option<i64>
+    ensures value { IfSome result (λ value. same_note (Cell table row column value) (note_of reading.now) ≡ true) }
+{
+    match reading {
+        Reading::Cell {
+            column: under,
+            table: of,
+            row: at,
+            value,
+        } => {
+            if column != usize::from(*under) {
+                return None;
+            }
+            if row == i64::from(*at) && table == usize::from(*of) {
+                return Some(*value);
+            }
+            None
+        }
+        _ => None,
+    }
+}

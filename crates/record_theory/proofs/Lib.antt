@@ -1,0 +1,10 @@
+pub mod Members
+pub mod Absorbed
+pub mod Puts
+pub mod Counts
+pub mod NumbersThen
+pub mod InStep
+pub mod Numbers
+pub mod Lookups
+pub mod Singles
+pub mod Same

@@ -1,0 +1,11 @@
+pub mod Record
+pub mod Same
+pub mod Validity
+pub mod Commits
+pub mod Counts
+pub mod Numbers
+pub mod InStep
+pub mod OneTime
+pub mod Named
+pub mod Batches
+pub mod Sums

@@ -1,0 +1,4 @@
+//! What records are by numbers, which of them answers an instance, and what follows from the definitions alone.
+#![tactic(auto)]
+
+pub mod laws;
