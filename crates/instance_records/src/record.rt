@@ -1,5 +1,5 @@
 //! The record of a memo instance that is over.
-ghost use Rattle.std.specs.Prelude.{◌≡◌, ◌+◌, ◌&&◌, suc, map, nat_eq, nat_le, ◌++◌};
+ghost use Rattle.std.specs.Prelude.{◌≡◌, ◌+◌, ◌&&◌, suc, map, nat_eq, nat_le, ◌++◌, true};
 ghost use Rattle.std.specs.Cmp.Lexicographic.{pointwise};
 ghost use Rattle.std.specs.Cmp.Rules.{comparing, hashing};
 ghost use Rattle.std.specs.Hash as fed;
@@ -9,7 +9,9 @@ ghost use Rattle.meaning.specs.Elision.{depth_limit};
 ghost use Rattle.meaning.specs.Every.{every};
 ghost use Rattle.record_theory.specs.Record.{touched, made_of, as_made};
 ghost use Rattle.instance_records.specs.ShortLists.{items_in};
-ghost use Rattle.record_theory.specs.Validity.{has_revision, record_holds};
+ghost use Rattle.record_theory.specs.InStep.{reads_agree};
+ghost use Rattle.record_theory.specs.Numbers.{is_counted, numbered_by};
+ghost use Rattle.record_theory.specs.Validity.{has_revision, record_holds, record_valid};
 
 use crate::readings::Readings;
 use crate::short_list::ShortList;
@@ -17,6 +19,7 @@ use input_tables::Tables;
 use linked_program::checked::Checked;
 use monoid_laws::Val;
 use record_numbers::depths::fits;
+use record_numbers::stale::is_fresh;
 use std::hash::{Hash, Hasher};
 use std::marker::Model;
 
@@ -168,6 +171,26 @@ impl Record {
         ensures holds { result ≡ record_holds program.now.revisions tables.now.tables self.now }
     {
         self.reads.agree(tables) && are_current(self.entered(), program)
+    }
+
+    /// Whether the tables hold what was read, as the number beside the record tells. One with more readings than can be counted may keep
+    /// the greatest number when they hold again, so it is compared.
+    pub fn agrees(&self, number: u32, tables: &Tables) -> bool
+        requires counted { is_counted tables.now.tables (numbered_by number self.now) ≡ true }
+        ensures agree { result ≡ reads_agree tables.now.tables self.now }
+    {
+        if number == u32::MAX {
+            return self.reads.agree(tables);
+        }
+        is_fresh(number)
+    }
+
+    /// Whether the record is valid now for an instance at that depth, where that number stands beside it.
+    pub fn is_valid(&self, number: u32, depth: u32, tables: &Tables, program: &Checked) -> bool
+        requires counted { is_counted tables.now.tables (numbered_by number self.now) ≡ true }
+        ensures valid { result ≡ record_valid program.now.revisions tables.now.tables depth self.now }
+    {
+        self.agrees(number, tables) && self.is_allowed(depth, program)
     }
 
     /// Whether the procedures entered are as they were, and an instance at that depth with as many nested in it stays within the

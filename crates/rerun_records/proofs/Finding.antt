@@ -7,11 +7,10 @@ use Rattle.meaning.specs.Tables.{Tables}
 use Rattle.meaning.specs.Tree.{Name}
 use Rattle.record_theory.specs.Record.{PlainRecord, is_of, as_made}
 use Rattle.record_theory.specs.Commits.{AreSingle}
-use Rattle.record_theory.specs.InStep.{IsInStep, reads_agree}
-use Rattle.record_numbers.specs.Stale.{most_number}
-use Rattle.record_theory.specs.Numbers.{with_numbers}
+use Rattle.record_theory.specs.InStep.{IsInStep}
+use Rattle.record_theory.specs.Numbers.{is_counted, numbered_by, with_numbers}
 use Rattle.record_theory.specs.Validity.{record_valid, only_valid, valid_at}
-use Rattle.record_theory.proofs.InStep.{IsNumber, number_is, number_agrees, counted_at}
+use Rattle.record_theory.proofs.InStep.{IsNumber, number_is, is_number, counted_at}
 use Rattle.rerun_records.proofs.Leaves.{there_at}
 use Rattle.rerun_records.proofs.WithNumbers.{number_at}
 use Rattle.rerun_records.proofs.Wholes.{of_itself, other_instance}
@@ -81,10 +80,10 @@ number_there tables ns rs now place m view long h there =
       right = subst (λ (x : PlainRecord). IsNumber tables x.reads r.stale) (sym at.2) (number_is tables r (counted_at tables now place r h at.1));
     }
 
--- one that isn't the greatest is 0 where the tables hold all that the record has read, and only there
+-- a number that is found there is right
 pub number_asked : (tables : Tables) (ns : List ℕ) (rs now : List PlainRecord) (place n : ℕ) (m : PlainRecord) → with_numbers ns rs ≡ now → length ns ≡ length rs → IsInStep tables now
-    → slice_get (map as_made now) place ≡ Some m → n ≡ get_or ns place n → (n ≡ most_number → ⊥) → nat_eq n 0 ≡ reads_agree tables m
-number_asked tables ns rs now place n m view long h there is other =
+    → slice_get (map as_made now) place ≡ Some m → n ≡ get_or ns place n → is_counted tables (numbered_by n m) ≡ true
+number_asked tables ns rs now place n m view long h there is =
     let has = number_there tables ns rs now place m view long h there in
     let same : n ≡ has.number = is ∙ get_or_from_slice_get ns place has.number n has.there in
-    number_agrees tables m.reads n (subst (IsNumber tables m.reads) (sym same) has.right) other
+    is_number tables (numbered_by n m) (subst (IsNumber tables m.reads) (sym same) has.right)

@@ -229,21 +229,7 @@ impl Records {
         requires there { slice_get (map as_made self.now) place ≡ Some record.now }
         ensures valid { result ≡ record_valid program.now.revisions tables.now.tables depth record.now }
     {
-        self.agrees(place, record, tables) && record.is_allowed(depth, program)
-    }
-
-    // Whether the tables hold what the record at that place has read, as its number tells. One with more readings than can be counted
-    // may keep the greatest number when they hold again, so it is compared.
-    fn agrees(&self, place: usize, record: &Record, tables: &Tables) -> bool
-        requires in_step { IsInStep tables.now.tables self.now }
-        requires there { slice_get (map as_made self.now) place ≡ Some record.now }
-        ensures agree { result ≡ reads_agree tables.now.tables record.now }
-    {
-        let number = self.numbers[place];
-        if number == u32::MAX {
-            return record.reads().agree(tables);
-        }
-        is_fresh(number)
+        record.is_valid(self.numbers[place], depth, tables, program)
     }
 
     /// Instances that records answer: that of the procedure of that number with these arguments, and those behind it in that
