@@ -19,9 +19,9 @@ use view_pool::View;
 
 impl<V: View> Strand<V> {
     /// Where the topmost instance is a loop's over a memo procedure, has records answer iterations: all those of a half that is halved
-    /// again, where they can, else the first ones, and it goes down to the next; or the first ones of those that are left one by one.
-    /// Whether any were answered. It is said whether a spawned child is called, for the halves that aren't answered. Where memory is
-    /// refused the strand can't go on.
+    /// again, where they can, else the first ones, and it goes down to the next; or the first ones of those that are left one by one. At a
+    /// spawn it has a record answer the child. Whether any were answered. It is said whether a spawned child is called, for the halves that
+    /// aren't answered. Where memory is refused the strand can't go on.
     #[inline(always)]
     pub fn answer_ahead(
         &mut self,

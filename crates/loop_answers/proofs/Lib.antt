@@ -5,3 +5,4 @@ pub mod Opened
 pub mod Batches
 pub mod Replays
 pub mod Levels
+pub mod Spawns

@@ -1,4 +1,5 @@
-//! Where the topmost instance of a strand is a loop's over a memo procedure: whether records answer its iterations, and which.
+//! Where the topmost instance of a strand is a loop's over a memo procedure: whether records answer its iterations, and which. And where
+//! a child is spawned, whether a record answers that.
 ghost use Rattle.std.specs.Prelude.{◌≡◌, ◌≤◌, ◌==◌, ◌||◌, nat_le, ℕ, true, false, length, All, OnErr, OnOk};
 ghost use Rattle.monoid_laws.specs.Kinds.{AreWorths, IsMonoid};
 ghost use Rattle.record_theory.specs.Named.{HaveValues};
@@ -27,9 +28,9 @@ use view_pool::View;
 pub(crate) const HALVINGS: u32 = meaning::HALVINGS;
 
 /// Where the topmost instance is a loop's over a memo procedure, has records answer iterations: all those of a half that is halved
-/// again, where they can, else the first ones, and it goes down to the next; or the first ones of those that are left one by one.
-/// Whether any were answered. It is said whether a spawned child is called, for the halves that aren't answered. Where memory is
-/// refused the strand can't go on.
+/// again, where they can, else the first ones, and it goes down to the next; or the first ones of those that are left one by one. At a
+/// spawn it has a record answer the child. Whether any were answered. It is said whether a spawned child is called, for the halves that
+/// aren't answered. Where memory is refused the strand can't go on.
 #[inline(always)]
 #[tactic(auto, using(crate::proofs::Replays::answered_same))]
 pub fn answer_ahead<V: View>(
@@ -54,8 +55,26 @@ pub fn answer_ahead<V: View>(
             Work::Turns(site, share) => answer_turns(machine, alloc, setting, site, share),
             _ => Ok(false),
         },
+        Phase::AtSpawn => answer_spawned(machine, alloc, setting),
         _ => Ok(false),
     }
+}
+
+/// At a spawn: has a record answer the child, as if that were called, so that nothing is pushed for it.
+#[tactic(auto, using(crate::proofs::Replays::answered_same))]
+fn answer_spawned<V: View>(
+    machine: &mut Machine<V>,
+    alloc: Global,
+    setting: Setting<'_>,
+) -> Result<bool, AllocError>
+    requires at_spawn { machine.old.phase ≡ Phase.AtSpawn }
+    requires kinds { machine.old.layer.kinds ≡ setting.program.now.kinds }
+    requires monoids { All IsMonoid setting.program.now.kinds }
+    requires values { HaveValues setting.program.now.kinds setting.records.now }
+    ensures ahead { OnOk result (IsAnsweredAhead (lent setting.entry) machine.old machine.new) }
+    ensures refused { OnErr result (IsSameButAnswers machine.old machine.new) }
+{
+    machine.answer_spawned(alloc, setting)
 }
 
 /// The same at a half, and at the halves in it that it comes to. It is kept out of the loop over small steps, which saves its registers.

@@ -13,6 +13,7 @@ ghost use Rattle.activations.specs.Given.{lent, loop_of};
 ghost use Rattle.answered_loops.specs.Arguments.{counts, are_fixed, is_fixed, is_slot};
 ghost use Rattle.loop_answers.specs.Batches.{instances_in, HasBatches, IsBatchFrom, CountsAt, AreArguments};
 
+use crate::found::{End, Found, found_so_far};
 use crate::tried::{
     Ahead, Search, Wanted, begins_at_stale, behind_first, first_ahead, first_number, is_no_use,
     is_stale_ahead, is_stale_at, keep_tried, most_asked, note_behind, note_stale, tried_in,
@@ -46,34 +47,6 @@ const WIDTH: u32 = 16;
 
 /// There is room for so many batches with the first one: the allocator takes longer for more.
 const FIRST_CAPACITY: u32 = 32;
-
-/// Where a search ended: behind all iterations that were asked for, at one that isn't answered, or where it was of no use to go on.
-#[derive(Clone, Copy)]
-enum End {
-    Through,
-    Stale,
-    Elsewhere,
-}
-
-/// Batches that answer a loop's iterations one after another, how many iterations those are, where the search ended, and near which
-/// place the record of the next iteration may lie.
-#[derive(Drop)]
-pub(crate) struct Found<'a> {
-    pub(crate) batches: Vec<Batch<'a>>,
-    pub(crate) count: u32,
-    end: End,
-    near: usize,
-}
-
-impl<'a> Found<'a> {
-    /// Whether the iteration behind these isn't answered.
-    pub(crate) fn ends_at_stale(&self) -> bool {
-        match self.end {
-            End::Stale => true,
-            _ => false,
-        }
-    }
-}
 
 /// Batches that answer a loop's iterations, those from the first on, one after another as far as there are such, at most so many
 /// iterations; none where the loop is over a procedure whose instances aren't recorded, or there is no room to enter them.
@@ -230,19 +203,6 @@ fn put_batch<'a>(
     }
     batches.push(batch)?;
     Ok(())
-}
-
-/// These batches, where the search for them ended, and near which place the next record may lie.
-fn found_so_far(batches: Vec<Batch<'_>>, count: u32, end: End, near: usize) -> Found<'_>
-    ensures batches { result.batches ≡ batches.entry }
-    ensures count { result.count ≡ count }
-{
-    Found {
-        batches,
-        count,
-        end,
-        near,
-    }
 }
 
 /// The depth of a loop's iterations, where some are wanted, their instances are recorded, and there is room to enter them.
@@ -465,10 +425,18 @@ fn counted_from<V: View>(
     ensures known { IfSome result (λ place. AreArguments tables.now.tables machine.old.top.slots code.entry.variable
         (map plain code.entry.arguments.now) numbers.new.items) }
 {
+    let place = search.counted?;
+    if code.arguments.len() == 1 {
+        numbers.clear();
+        if numbers.push(number).is_err() {
+            return None;
+        }
+        return Some(place);
+    }
     if !unread_values_at(machine, alloc, tables, code, number, numbers) {
         return None;
     }
-    search.counted
+    Some(place)
 }
 
 /// The place of the argument that is the number of a loop's iteration, where it counts up from one to the next and all others

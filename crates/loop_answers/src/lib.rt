@@ -4,5 +4,6 @@
 pub mod answering;
 mod descending;
 mod finding;
+mod found;
 mod taking;
 mod tried;

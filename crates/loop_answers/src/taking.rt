@@ -7,7 +7,7 @@ ghost use Rattle.answered_loops.specs.Answered.{absorbed, answered_more, iterati
 ghost use Rattle.loop_answers.specs.Ahead.{called_more, DoneBy, IsSameButAnswers};
 ghost use Rattle.loop_answers.specs.Batches.{sums_of, SumsHaveValues, instances_in, with_batches, halves_left, first_left, last_left, turns_left};
 
-use crate::finding::Found;
+use crate::found::Found;
 use activations::activation::Activation;
 use activations::shares::right_of;
 use layers::layer::{DEEPEST, Layer};

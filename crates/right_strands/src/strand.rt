@@ -147,9 +147,9 @@ impl<J: Run, V: View> RightStrand<J, V> {
     }
 
     /// Where the topmost instance is a loop's over a memo procedure, has records answer iterations: all those of a half that is halved
-    /// again, where they can, else the first ones, and it goes down to the next; or the first ones of those that are left one by one.
-    /// Whether any were answered. It is said whether a spawned child is called, for the halves that aren't answered. Where memory is
-    /// refused the strand has failed.
+    /// again, where they can, else the first ones, and it goes down to the next; or the first ones of those that are left one by one. At a
+    /// spawn it has a record answer the child. Whether any were answered. It is said whether a spawned child is called, for the halves that
+    /// aren't answered. Where memory is refused the strand has failed.
     #[inline(always)]
     pub fn answer_ahead(
         &mut self,

@@ -15,7 +15,8 @@ use Rattle.positions.specs.Activations.{PlainActivation}
 use Rattle.positions.specs.Layers.{PlainLayer, blank}
 use Rattle.positions.specs.Tallies.{opening}
 use Rattle.positions.specs.Strands.{PlainStrand, shorter, IsLayered}
-use Rattle.positions.specs.Advance.{begun, child_of, pushed, faulted, opened_of}
+use Rattle.positions.specs.Advance.{begun, child_of, pushed, faulted, opened_of, reused, started}
+use Rattle.positions.specs.Moves.{inlined}
 use Rattle.positions.specs.Simulation.{IsSmallStep, KitsFollow}
 use Rattle.view_pool.specs.declared.pool.KitSource.{Ghosts as Source}
 use Rattle.activations.specs.declared.setting.Setting.{Setting as Lent}
@@ -55,6 +56,12 @@ abbrev pub took_back : List PlainActivation → Bool → Option ℕ → Work →
 took_back [] spawned into w s = s
 took_back (p ∷ rest) spawned into w s =
     record s { path = shorter s.path; top = record p { children = p.children - 1; work = w; spawned = spawned; into = into }; below = rest; phase = Running }
+
+-- a record answers a spawned child, as if that were called
+pub record IsAnsweredCall (setting : Setting) (s t : PlainStrand) : Type 0 where
+  pub by : PlainRecord
+  pub is : t ≡ reused by s
+  pub next : (kit : Bool) → t ≡ started setting kit (inlined s)
 
 -- ---- what a strand keeps
 

@@ -1,11 +1,11 @@
 // Memo instances: a record answers them, or they begin in a layer of their own, which becomes a record at their end.
-ghost use Rattle.std.specs.Prelude.{◌≡◌, ◌<◌, ◌⊎◌, List, All, IfErr, IfOk, OnErr, OnOk, length, option_copied};
+ghost use Rattle.std.specs.Prelude.{◌≡◌, ◌<◌, ◌⊎◌, true, false, List, All, IfErr, IfOk, OnErr, OnOk, length, option_copied};
 ghost use Rattle.monoid_laws.specs.declared.Kind.{Kind};
 ghost use Rattle.monoid_laws.specs.Kinds.{IsMonoid};
 ghost use Rattle.record_theory.specs.Named.{AreValuesFrom, HaveValues};
 ghost use Rattle.positions.specs.Advance.{reused, passed, opened_of, answer_for, recalled, started, closed, synced};
 ghost use Rattle.activations.specs.Given.{lent};
-ghost use Rattle.small_steps.specs.Steps.{GivesNone, HoldsFor, IsSuppliedBy, IsValued, KeepsAllKits, opened_in, revalued};
+ghost use Rattle.small_steps.specs.Steps.{GivesNone, HoldsFor, IsAnsweredCall, IsSuppliedBy, IsValued, KeepsAllKits, opened_in, revalued};
 
 use crate::machine::Machine;
 use activations::setting::Setting;
@@ -92,6 +92,36 @@ impl<V: View> Machine<V> {
             setting.tables,
             setting.program,
         )
+    }
+
+    /// At a spawn: has a record answer the child, as if that were called; whether one does. Where memory is refused nothing has changed
+    /// but the topmost layer's values.
+    pub fn answer_spawned(
+        &mut self,
+        alloc: Global,
+        setting: Setting<'_>,
+    ) -> Result<bool, AllocError>
+        requires kinds { self.old.layer.kinds ≡ setting.program.now.kinds }
+        requires monoids { All IsMonoid setting.program.now.kinds }
+        requires values { HaveValues setting.program.now.kinds setting.records.now }
+        ensures answered { IfOk result (λ answered. answered ≡ true → IsAnsweredCall (lent setting.entry) self.old self.new) }
+        ensures same { IfOk result (λ answered. answered ≡ false → self.new ≡ self.old) }
+        ensures refused { OnErr result (self.new ≡ record self.old { layer = revalued self.old.layer self.new.layer }) }
+    {
+        match self.top.work() {
+            Work::Block(_) => {}
+            _ => return Ok(false),
+        }
+        if !setting.program.is_memo(self.top.procedure()) {
+            return Ok(false);
+        }
+        match self.record_for(setting) {
+            Some(record) => {
+                self.reuse(alloc, record)?;
+                Ok(true)
+            }
+            None => Ok(false),
+        }
     }
 
     /// Has a record answer the topmost instance.

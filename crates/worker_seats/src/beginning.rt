@@ -14,8 +14,9 @@ use std::sync::ledger::{Blank, Ledger};
 use stealing_deques::{NewDeque, new_deques};
 use view_pool::{Kit, Pool, View};
 
-/// How many continuations a deque has room for at first.
-const FIRST_CAPACITY: usize = 64;
+/// How many continuations a deque has room for at first. Few wait in one, since where four do the next child is called, and room for
+/// many takes the allocator longer at each run.
+const FIRST_CAPACITY: usize = 8;
 
 /// New ledgers of a run: of the workers that will leave, and of the kits that strands have.
 #[derive(Drop)]
