@@ -8,7 +8,8 @@ use Rattle.std.specs.List.{insert, remove}
 use Rattle.std.specs.Ordering.{int_eq}
 use Rattle.meaning.specs.Edits.{row_put, row_gone}
 use Rattle.input_tables.specs.Rows.{Row, Numbered, rows_of, numbers_of, cells_of, AreWide}
-use Rattle.input_tables.specs.Pages.{lower_count, AreOver, AreRising, HasRows, IsOf, IsAbsent, last_of, Page, all_of}
+use Rattle.input_tables.specs.Pages.{lower_count, AreOver, AreRising, HasRows, IsOf, IsAbsent, Page, all_of}
+use Rattle.table_parts.specs.Ends.{last_or, last_of}
 
 -- ---- lists that begin with the cells of a row
 
@@ -294,20 +295,13 @@ absent-numbers n [] i is = tt
 absent-numbers n (r ∷ rs) zero is = is
 absent-numbers n (r ∷ rs) (suc i) is = absent-numbers n rs i is
 
-last_there : (rows : List Row) (i : ℕ) (e : Numbered) → length rows ≡ suc i → slice_get (numbers_of rows) i ≡ Some e → last_of rows ≡ Some e.0
-last_there [] i e long at = absurd cc
-last_there (f ∷ []) zero e long at =
-    let first : ◌≡◌ {A = Numbered} (f.0, tt) e = cc in
-    ap (λ d. Some d.0) first
-last_there (f ∷ []) (suc i) e long at = absurd (omega (arith, long))
-last_there (f ∷ g ∷ rs) zero e long at = absurd (omega (arith, long))
-last_there (f ∷ g ∷ rs) (suc i) e long at = last_there (g ∷ rs) i e (omega (arith, long)) at
+last_numbers_or : (n : ℤ) (rows : List Row) → last_or n (numbers_of rows) ≡ last_or n rows
+last_numbers_or n [] = refl
+last_numbers_or n (r ∷ rs) = last_numbers_or r.0 rs
 
-pub last_number : (rows : List Row) (e : Numbered) → slice_get (numbers_of rows) (length (numbers_of rows) - 1) ≡ Some e → last_of rows ≡ Some e.0
-last_number [] e at = absurd cc
-last_number (r ∷ rs) e at =
-    let before : suc (length (numbers_of rs)) - 1 ≡ length rs = omega (arith, length_numbers 0 rs) in
-    last_there (r ∷ rs) (length rs) e refl (subst (λ (k : ℕ). slice_get (numbers_of (r ∷ rs)) k ≡ Some e) before at)
+pub last_numbers : (rows : List Row) → last_of (numbers_of rows) ≡ last_of rows
+last_numbers [] = refl
+last_numbers (r ∷ rs) = ap Some (last_numbers_or r.0 rs)
 
 -- ---- the rows of a table stay as wide as they are
 

@@ -1,5 +1,6 @@
 pub mod Accepted
 pub mod Added
+pub mod Causes
 pub mod Counts
 pub mod Laid
 pub mod Listed

@@ -8,7 +8,8 @@ use Rattle.meaning.specs.Edits.{row_put, row_gone, in_range}
 use Rattle.monoid_laws.specs.Kinds.{Fits}
 use Rattle.input_tables.specs.Edited.{RowsFit}
 use Rattle.input_tables.specs.Rows.{Row, AreCells}
-use Rattle.input_tables.specs.Pages.{lower_count, AreRising, page_of, Page, AreOn, HasRows, ArePages, all_of, put_entry, gone_entry, IsOf, IsAbsent, last_of}
+use Rattle.input_tables.specs.Pages.{lower_count, AreRising, page_of, Page, AreOn, HasRows, ArePages, all_of, put_entry, gone_entry, IsOf, IsAbsent}
+use Rattle.table_parts.specs.Ends.{last_of}
 use Rattle.input_tables.proofs.Orders.{entry_there, entry_absent, put_over, put_new, gone_there, rising_put, rising_gone}
 use Rattle.input_tables.proofs.Paging.{rows_in, rows_on, row_on_page, put_on_page, gone_on_page, none_left, page_at, row_gone_absent, row_put-entry, row_gone-entry}
 

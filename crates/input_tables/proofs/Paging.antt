@@ -8,7 +8,8 @@ use Rattle.std.specs.Ordering.{int_eq}
 use Rattle.meaning.specs.Tables.{row_of, above_all, is_there}
 use Rattle.meaning.specs.Edits.{row_put, row_gone, in_range}
 use Rattle.input_tables.specs.Rows.{Row}
-use Rattle.input_tables.specs.Pages.{lower_count, AreOver, AreUnder, AreRising, page_of, Page, AreOn, HasRows, ArePages, all_of, put_entry, gone_entry, entry_of, IsOf, IsAbsent, last_or, last_of}
+use Rattle.input_tables.specs.Pages.{lower_count, AreOver, AreUnder, AreRising, page_of, Page, AreOn, HasRows, ArePages, all_of, put_entry, gone_entry, entry_of, IsOf, IsAbsent}
+use Rattle.table_parts.specs.Ends.{last_or, last_of}
 use Rattle.input_tables.proofs.Orders.{lt_self, lt_not, lower, same, higher, compared, over_more, entry_over, entry_there, entry_absent, put_over, put_new, gone_there, differ}
 
 -- the rows of the page of a number

@@ -8,8 +8,8 @@ use Rattle.monoid_laws.specs.Kinds.{Fits}
 use Rattle.meaning.specs.Tables.{Tables, Listed, row_of, at_column, is_there, above_all, column_total, cell_of}
 use Rattle.meaning.specs.Edits.{row_put, row_gone, with_rows, table_changed, Standing, EditRefusal, UnknownTable, WrongColumns, RowRange, NoRow, Exhausted}
 use Rattle.input_tables.specs.Rows.{Row}
-use Rattle.input_tables.specs.declared.refusal.RowError.{RowError}
-use Rattle.input_tables.specs.declared.refusal.RowError.TheVariants as e
+use Rattle.table_parts.specs.declared.refusals.RowError.{RowError}
+use Rattle.table_parts.specs.declared.refusals.RowError.TheVariants as e
 use Rattle.input_tables.specs.declared.refusal.PutError.{PutError}
 use Rattle.input_tables.specs.declared.refusal.PutError.TheVariants.{NoMemory, Refused}
 

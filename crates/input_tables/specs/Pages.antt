@@ -73,12 +73,3 @@ put_entry n x (e ∷ es) = cond (int_lt n e.0) ((n, x) ∷ e ∷ es) (cond (int_
 abbrev pub gone_entry : {A : Type 0} → ℤ → List (ℤ × A) → List (ℤ × A)
 gone_entry n [] = []
 gone_entry n (e ∷ es) = cond (int_eq e.0 n) es (e ∷ gone_entry n es)
-
--- the number of the last row
-abbrev pub last_or : ℤ → List Row → ℤ
-last_or n [] = n
-last_or n (r ∷ rs) = last_or r.0 rs
-
-abbrev pub last_of : List Row → Option ℤ
-last_of [] = None
-last_of (r ∷ rs) = Some (last_or r.0 rs)

@@ -1,19 +1,9 @@
--- The totals of a table's columns, each wrapped to 64 bits, and what a row that is put or taken out makes of them.
-use Rattle.std.specs.Prelude.{◌≡◌, ℕ, ℤ, ◌+ℤ◌, ◌-ℤ◌, List, [], ◌∷◌, Option, Some, None, slice_get}
+-- The totals of a table's columns, each wrapped to 64 bits, and what a row that is taken out makes of them.
+use Rattle.std.specs.Prelude.{◌≡◌, ℕ, ℤ, List, Option, Some, None, slice_get}
 use Rattle.std.specs.Int.{w64, int_wrap}
 use Rattle.meaning.specs.Tables.{amount_in, column_total}
+use Rattle.table_parts.specs.Sums.{taken}
 use Rattle.input_tables.specs.Rows.{Row}
-
--- a row's values put on the totals of their columns, and taken off them
-abbrev pub added : List ℤ → List ℤ → List ℤ
-added ss [] = ss
-added [] (v ∷ vs) = []
-added (s ∷ ss) (v ∷ vs) = int_wrap w64 (s +ℤ v) ∷ added ss vs
-
-abbrev pub taken : List ℤ → List ℤ → List ℤ
-taken ss [] = ss
-taken [] (v ∷ vs) = []
-taken (s ∷ ss) (v ∷ vs) = int_wrap w64 (s -ℤ v) ∷ taken ss vs
 
 -- the sums without a row, and as they are where the row isn't there
 abbrev pub without_row : Option (List ℤ) → List ℤ → List ℤ

@@ -4,10 +4,11 @@ ghost use Rattle.std.specs.Prelude.{◌≡◌, OnOk, IfErr, None, [], map};
 ghost use Rattle.input_tables.specs.Adding.{column_refusal, own_refusal, refusal, IsAddCause};
 
 use crate::document::MOST_TABLES;
-use crate::names::{is_name, place_of};
+use crate::names::is_name;
 use crate::refusal::AddError;
-use crate::shapes::MOST_COLUMNS;
 use crate::table::{Table, find};
+use table_parts::bounds::is_column_count;
+use table_parts::found::index_of;
 
 /// Refuses a table of this name and these columns behind these tables, if it may not stand there.
 pub fn check(tables: &[Table], name: &str, columns: &[&str]) -> Result<(), AddError>
@@ -31,7 +32,7 @@ fn check_own(name: &str, columns: &[&str]) -> Result<(), AddError>
     if !is_name(name) {
         return Err(AddError::TableName);
     }
-    if columns.is_empty() || columns.len() > MOST_COLUMNS {
+    if !is_column_count(columns.len()) {
         return Err(AddError::ColumnCount);
     }
     check_columns(columns)
@@ -46,7 +47,7 @@ fn check_columns(columns: &[&str]) -> Result<(), AddError>
         if !is_name(column) {
             return Err(AddError::ColumnName);
         }
-        if place_of(&columns[..place], column) < place {
+        if index_of(&columns[..place], column) < place {
             return Err(AddError::ColumnTwice);
         }
     }

@@ -2,7 +2,6 @@
 #![tactic(auto)]
 
 mod adding;
-mod cells;
 mod document;
 mod names;
 mod page;
@@ -10,9 +9,9 @@ mod places;
 mod refusal;
 mod rows;
 mod shapes;
-mod sums;
 mod table;
 mod tables;
 
-pub use refusal::{AddError, PutError, RowError, TablesError};
+pub use refusal::{AddError, PutError, TablesError};
+pub use table_parts::refusals::RowError;
 pub use tables::Tables;

@@ -1,7 +1,6 @@
-// The names of tables and columns.
+// The names that tables and columns may have.
 
-ghost use Rattle.std.specs.Prelude.{◌≡◌, ◌≤◌, length, map, string_bytes};
-ghost use Rattle.meaning.specs.Tables.{index_of};
+ghost use Rattle.std.specs.Prelude.{◌≡◌};
 ghost use Rattle.input_tables.specs.Names.{is_lower, begins_name, is_name_byte, are_name_bytes, is_keyword, is_name};
 
 fn is_lower(byte: u8) -> bool
@@ -69,30 +68,4 @@ pub fn is_name(text: &str) -> bool
 {
     let bytes = text.as_bytes();
     begins_name(bytes) && are_name_bytes(bytes) && bytes.len() <= 32 && !is_keyword(text)
-}
-
-/// The index of a name, or the number of names where it isn't among them.
-pub fn index_of(names: &[String], name: &str) -> usize
-    ensures place { result ≡ index_of (map string_bytes names.now) name.now }
-    ensures within { result ≤ length names.now }
-{
-    for (place, other) in names.iter().enumerate() {
-        if other.as_str() == name {
-            return place;
-        }
-    }
-    names.len()
-}
-
-/// The place of a name, or the number of names where it isn't among them.
-pub fn place_of(names: &[&str], name: &str) -> usize
-    ensures place { result ≡ index_of (map (λ n. n.now) names.now) name.now }
-    ensures within { result ≤ length names.now }
-{
-    for (place, other) in names.iter().enumerate() {
-        if *other == name {
-            return place;
-        }
-    }
-    names.len()
 }

@@ -4,15 +4,18 @@ ghost use Rattle.std.specs.Prelude.{◌≡◌, ◌∷◌, ◌<◌, ◌≤◌, �
 ghost use Rattle.std.specs.List.{insert, remove};
 ghost use Rattle.meaning.specs.Tables.{row_of, is_there};
 ghost use Rattle.meaning.specs.Edits.{row_put, row_gone};
-ghost use Rattle.input_tables.specs.Pages.{lower_count, AreRising, HasRows, IsOf, IsAbsent, last_of};
+ghost use Rattle.table_parts.specs.Ends.{last_of};
+ghost use Rattle.table_parts.specs.Sums.{added};
+ghost use Rattle.input_tables.specs.Pages.{lower_count, AreRising, HasRows, IsOf, IsAbsent};
 ghost use Rattle.input_tables.specs.Rows.{AreWide};
-ghost use Rattle.input_tables.specs.Sums.{added, without_row};
+ghost use Rattle.input_tables.specs.Sums.{without_row};
 
-use crate::cells::{cells_at, insert_row, remove_row, replace_row};
 use crate::places::{find, place_on_page, stands_at};
-use crate::sums::{put_on, take_off};
 use std::alloc::{AllocError, Global};
 use std::marker::Model;
+use table_parts::cells::{cells_at, insert_row, remove_row, replace_row};
+use table_parts::found::last_number;
+use table_parts::sums::{put_on, put_over, take_off};
 
 /// Rows with their values, by rising numbers. The cells of all rows stand in one list, row behind row, so that a cell is one
 /// load away once its row is found, and a row takes no memory of its own.
@@ -80,10 +83,7 @@ impl Page {
     pub fn last(&self) -> Option<i64>
         ensures { result ≡ last_of self.now }
     {
-        match self.numbers.last() {
-            Some(row) => Some(row.0),
-            None => None,
-        }
+        last_number(&self.numbers)
     }
 
     /// Puts a row in the place of the one of its number, and says whether there was one. The totals of the columns follow.
@@ -104,10 +104,8 @@ impl Page {
     {
         match self.find(number) {
             Ok(place) => {
-                let before = self.values_at(place);
-                take_off(sums, before);
+                put_over(sums, self.values_at(place), values);
                 self.replace_at(place, values);
-                put_on(sums, values);
                 Ok(true)
             }
             Err(place) => {

@@ -1,4 +1,4 @@
-// Why a document of tables, a table that is added or an edit is refused.
+// Why a document of tables, a table that is added or a put is refused.
 
 ghost use Rattle.std.specs.Prelude.{◌≡◌};
 ghost use Rattle.input_tables.specs.declared.refusal.Fault.TheVariants.{NoMemory};
@@ -7,6 +7,7 @@ ghost use Rattle.input_tables.specs.declared.refusal.AddError.TheVariants as add
 ghost use Rattle.input_tables.specs.declared.refusal.PutError.TheVariants as put;
 
 use std::alloc::{AllocError, AllocFailed};
+use table_parts::refusals::RowError;
 use thiserror::Error;
 
 /// Why a text is refused as a document of tables.
@@ -43,26 +44,6 @@ pub enum AddError {
     /// Two columns have one name.
     #[error("two columns have one name")]
     ColumnTwice,
-}
-
-/// Why an edit of a row is refused.
-#[derive(Debug, Drop, Error)]
-pub enum RowError {
-    /// There is no table of the name.
-    #[error("refused E4")]
-    UnknownTable,
-    /// The row has another number of values than the table has columns.
-    #[error("refused E5")]
-    WrongColumns,
-    /// The row's number isn't in 0 to 2147483647.
-    #[error("refused E6")]
-    RowRange,
-    /// There is no row of the number.
-    #[error("refused E7")]
-    NoRow,
-    /// As many edits were accepted as can be counted.
-    #[error("refused E18")]
-    Exhausted,
 }
 
 /// Why a row is not put.

@@ -4,16 +4,18 @@ ghost use Rattle.std.specs.Prelude.{◌≡◌, pos, [], true, IfOk, IfSome, OnOk
 ghost use Rattle.meaning.specs.Tables.{row_of, above_all, is_there};
 ghost use Rattle.monoid_laws.specs.Kinds.{Fits};
 ghost use Rattle.meaning.specs.Edits.{row_put, row_gone, in_range};
+ghost use Rattle.table_parts.specs.Sums.{added};
 ghost use Rattle.input_tables.specs.Rows.{AreCells, AreWide};
 ghost use Rattle.input_tables.specs.Pages.{AreRising};
 ghost use Rattle.input_tables.specs.Edited.{RowsFit};
-ghost use Rattle.input_tables.specs.Sums.{added, without_row};
+ghost use Rattle.input_tables.specs.Sums.{without_row};
 
 use crate::page::Page;
 use crate::places::{find, page_of, place_among_pages, place_of_page, place_on_page};
-use crate::sums::put_on;
 use std::alloc::{AllocError, Global};
 use std::marker::Model;
+use table_parts::found::is_found;
+use table_parts::sums::put_on;
 
 /// Rows, each with its number and its values, by rising numbers. They stand in pages, each with its own number, so that a
 /// row is found at once where none is missing before it, and a lone row of a great number takes little.
@@ -88,7 +90,7 @@ impl Rows {
     pub fn has(&self, number: i64) -> bool
         ensures { result ≡ is_there (row_of self.now number) }
     {
-        self.get(number).is_some()
+        is_found(self.get(number))
     }
 
     /// What the type keeps: each cell is a number of 64 bits.

@@ -10,14 +10,13 @@ ghost use Rattle.input_tables.specs.Rows.{AreWide};
 ghost use Rattle.input_tables.specs.Sums.{AreTotals};
 ghost use Rattle.toml.specs.Data.{as_str, as_array};
 
-use crate::names::{index_of, is_name};
+use crate::names::is_name;
 use crate::refusal::Fault;
 use crate::rows::Rows;
 use std::alloc::Global;
+use table_parts::bounds::{is_column_count, is_row_number};
+use table_parts::found::index_of;
 use toml::{Table as Members, Value};
-
-/// How many columns a table may have.
-pub const MOST_COLUMNS: usize = 8;
 
 /// The array at a key.
 pub fn array_at<'a>(members: &'a Members, key: &str) -> Option<&'a Vec<Value>>
@@ -49,7 +48,7 @@ pub fn columns_in(alloc: Global, items: &[Value]) -> Result<Vec<String>, Fault>
         ≡ Some (map string_bytes columns.items)) }
     ensures refused { IfErr result (IsFaulty (columns_in (items_view items.now))) }
 {
-    if items.is_empty() || MOST_COLUMNS < items.len() {
+    if !is_column_count(items.len()) {
         return Err(Fault::Shape);
     }
     columns_from(alloc, items)
@@ -76,13 +75,6 @@ fn number_in(item: &Value) -> Option<i64>
         Some(number) if is_row_number(number) => Some(number),
         _ => None,
     }
-}
-
-/// Whether a row may have this number.
-pub fn is_row_number(number: i64) -> bool
-    ensures { result ≡ in_range number }
-{
-    0 <= number && number <= 2_147_483_647
 }
 
 // The integers that an array holds.

@@ -2,7 +2,6 @@
 
 ghost use Rattle.std.specs.Prelude.{◌≡◌, ◌<◌, [], pos, IfOk, IfErr, OnOk, OnErr, IfSome, IfNone, Some, map, option_map, length, string_bytes, true};
 ghost use Rattle.std.specs.Int.{w64, int_wrap};
-ghost use Rattle.std.specs.Str.{bytes_eq};
 ghost use Rattle.toml.specs.View.{view, table_view};
 ghost use Rattle.meaning.specs.Tables.{row_of, at_column, is_there, above_all, column_total, index_of};
 ghost use Rattle.meaning.specs.Edits.{with_rows, row_put, row_gone, in_range, table_of};
@@ -13,12 +12,14 @@ ghost use Rattle.input_tables.specs.Faults.{IsFaulty};
 ghost use Rattle.input_tables.specs.Rows.{AreWide};
 ghost use Rattle.input_tables.specs.Sums.{AreTotals};
 
-use crate::names::{index_of, is_name};
+use crate::names::is_name;
 use crate::refusal::Fault;
 use crate::rows::Rows;
 use crate::shapes::{array_at, columns_in, rows_in};
 use std::alloc::{AllocError, Global};
+use std::convert::AsStr;
 use std::marker::Model;
+use table_parts::found::{index_of, value_in};
 use toml::{Table as Members, Value};
 
 /// A table: its name, its columns as declared, its rows, and the total of each column over them.
@@ -43,6 +44,14 @@ impl Model for Table {
     ghost invariant = { λ t. AreWide (length t.columns.items) t.rows × (length t.sums.items ≡ length t.columns.items) × AreTotals t.sums.items t.rows };
 }
 
+impl AsStr for Table {
+    ghost text = { λ t. t.called };
+
+    fn as_str(&self) -> &str {
+        self.name.as_str()
+    }
+}
+
 impl Table {
     /// A table without rows.
     pub fn without_rows(alloc: Global, name: &str, columns: &[&str]) -> Result<Table, AllocError>
@@ -57,13 +66,6 @@ impl Table {
             rows: Rows::new(alloc),
             sums,
         })
-    }
-
-    /// Whether the table has this name.
-    pub fn is_called(&self, name: &str) -> bool
-        ensures { result ≡ bytes_eq self.now.called name.now }
-    {
-        self.name.as_str() == name
     }
 
     /// Lends the table's name.
@@ -131,7 +133,7 @@ impl Table {
         ensures { result ≡ at_column (row_of self.now.rows row) column }
     {
         match self.rows.get(row) {
-            Some(values) => values.get(column).copied(),
+            Some(values) => value_in(values, column),
             None => None,
         }
     }
@@ -215,12 +217,11 @@ pub fn find<'a>(tables: &'a [Table], name: &str) -> Option<(usize, &'a Table)>
     ensures within { IfSome result (λ p. p.0 < length tables.now) }
     ensures absent { IfNone result (index_of (names_of tables.now) name.now ≡ length tables.now) }
 {
-    for (number, table) in tables.iter().enumerate() {
-        if table.is_called(name) {
-            return Some((number, table));
-        }
+    let number = index_of(tables, name);
+    match tables.get(number) {
+        Some(table) => Some((number, table)),
+        None => None,
     }
-    None
 }
 
 /// The table of a key and its value in a document; a fault where it isn't of the shape, or for want of memory.

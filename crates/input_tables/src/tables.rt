@@ -16,11 +16,14 @@ ghost use Rattle.input_tables.specs.Edited.{columns_at, rows_at, cell_at, has_at
 
 use crate::adding;
 use crate::document::tables_in;
-use crate::refusal::{AddError, PutError, RowError, TablesError};
-use crate::shapes::is_row_number;
+use crate::refusal::{AddError, PutError, TablesError};
 use crate::table::{Table, find};
 use std::alloc::{AllocError, Global};
 use std::marker::Model;
+use table_parts::found::value_in;
+use table_parts::refusals;
+use table_parts::refusals::RowError;
+use table_parts::texts::document;
 
 /// Tables, and how many of their edits were accepted. Those of a document stand in byte order of their names, and tables
 /// that are added stand behind them.
@@ -36,14 +39,6 @@ impl Model for Tables {
     ghost Value = { Edited };
 
     ghost view = { λ t. record { tables = t.listed.items; edits = t.edits } };
-}
-
-// The value of a row in a column.
-#[inline(always)]
-fn value_in(values: &[i64], column: usize) -> Option<i64>
-    ensures { result ≡ slice_get values.now column }
-{
-    values.get(column).copied()
 }
 
 impl Tables {
@@ -62,10 +57,9 @@ impl Tables {
         ensures edits { IfOk result (λ read. read.edits ≡ 0) }
         ensures refused { IfErr result (HasCause text.now) }
     {
-        match toml::table_from_str(alloc, text) {
-            Ok(document) => Ok(unedited(tables_in(alloc, &document)?)),
-            Err(error) if error.is_memory() => Err(TablesError::NoMemory),
-            Err(_) => Err(TablesError::NotToml),
+        match document(alloc, text)? {
+            Some(document) => Ok(unedited(tables_in(alloc, &document)?)),
+            None => Err(TablesError::NotToml),
         }
     }
 
@@ -391,17 +385,8 @@ impl Tables {
         ensures refused { IfErr result (λ error. (t : Name) (program : Revised) (lines : List Lined) (vs : List ℤ) → length vs ≡ values
             → put_in (beside program lines self.now) t row vs (slice_get self.now.tables number) ≡ Err (row_refusal error)) }
     {
-        let table = self.numbered(number);
-        if !is_row_number(row) {
-            return Err(RowError::RowRange);
-        }
-        if table.column_count() != values {
-            return Err(RowError::WrongColumns);
-        }
-        if self.edit_number() == u64::MAX {
-            return Err(RowError::Exhausted);
-        }
-        Ok(())
+        let columns = self.numbered(number).column_count();
+        refusals::check_put(row, values, columns, self.edit_number())
     }
 
     // Whether a row may be taken out of the table of a number, whatever its name, or why it may not.
@@ -415,17 +400,8 @@ impl Tables {
             → delete_in (beside program lines self.now) t row (slice_get self.now.tables number)
             ≡ Err (row_refusal error)) }
     {
-        let table = self.numbered(number);
-        if !is_row_number(row) {
-            return Err(RowError::RowRange);
-        }
-        if !table.has(row) {
-            return Err(RowError::NoRow);
-        }
-        if self.edit_number() == u64::MAX {
-            return Err(RowError::Exhausted);
-        }
-        Ok(())
+        let there = self.numbered(number).has(row);
+        refusals::check_delete(row, there, self.edit_number())
     }
 
     // Puts a row into the table of a number, and counts the edit.

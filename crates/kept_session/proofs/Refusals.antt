@@ -6,7 +6,7 @@ use Rattle.meaning.specs.Records.{Revised}
 use Rattle.meaning.specs.Edits.{Standing, EditRefusal, Put, Define, after_put, after_delete}
 use Rattle.linked_program.specs.Checked.{revised_of}
 use Rattle.input_tables.specs.Edited.{beside, row_refusal, IsPutCause}
-use Rattle.input_tables.specs.declared.refusal.RowError.{RowError}
+use Rattle.table_parts.specs.declared.refusals.RowError.{RowError}
 use Rattle.input_tables.specs.declared.refusal.PutError.{PutError}
 use Rattle.input_tables.specs.declared.refusal.PutError.TheVariants as put
 use Rattle.checked_defines.specs.Causes.{IsDefineCause}

@@ -1,7 +1,6 @@
 use Rattle.std.proofs.Common.{◌≡◌, Some, None, sym, ap, ◌∙◌, w64}
 use Rattle.std.proofs.lemmas.Int.{to_z-of_z}
 use Rattle.meaning.specs.Tables.{row_of, is_there}
-use Rattle.input_tables.specs.Sums.{added}
 use Rattle.input_tables.proofs.Paging.{there_row, found_row, missed_row, put_found, put_missed}
 use Rattle.input_tables.proofs.page.Page.put.Goals as goal
 
@@ -39,8 +38,8 @@ returns-in-Ok-clause-sums c =
     let of_n = to_z-of_z w64 _ c.ranges.number in
     let place = rw of_n at c.in-Ok.ensures.place in
     let there = rw of_n at c.in-Ok.ensures.there in
-    let row : row_of c.args.self.now c.args.number ≡ Some c.values_at-before.result.now = found_row c.args.self.now c.args.number c.in-Ok.place place there c.values_at-before.result.now c.values_at-before.ensures in
-    rw row (c.put_on.ensures ∙ ap (λ ss. added ss c.args.values.now) c.take_off.ensures)
+    let row : row_of c.args.self.now c.args.number ≡ Some c.values_at.result.now = found_row c.args.self.now c.args.number c.in-Ok.place place there c.values_at.result.now c.values_at.ensures in
+    rw row c.put_over.ensures
 
 pub returns-in_ok-insert_at-in-Err-clause-sums : goal.returns-in_ok-insert_at-in-Err-clause-sums
 returns-in_ok-insert_at-in-Err-clause-sums c =
@@ -48,4 +47,4 @@ returns-in_ok-insert_at-in-Err-clause-sums c =
     let place = rw of_n at c.in-Err.ensures.new_place in
     let absent = rw of_n at c.in-Err.ensures.absent in
     let row : row_of c.args.self.now c.args.number ≡ None = missed_row c.args.self.now c.args.number c.in-Err.place place c.requires.rising absent in
-    rw row c.put_on-in-Err.ensures
+    rw row c.put_on.ensures

@@ -5,7 +5,8 @@ use Rattle.std.specs.Prelude.{slice_get, IfOk, OnOk}
 use Rattle.meaning.specs.Tables.{is_there}
 use Rattle.input_tables.specs.Pages.{page_of, all_of}
 use Rattle.input_tables.specs.Rows.{AreWide}
-use Rattle.input_tables.specs.Sums.{added, without_row}
+use Rattle.table_parts.specs.Sums.{added}
+use Rattle.input_tables.specs.Sums.{without_row}
 use Rattle.input_tables.proofs.Laid.{wide_page}
 use Rattle.input_tables.proofs.Paging.{rising_all}
 use Rattle.input_tables.proofs.PageEdits.{row_via_page, row_off_pages, put_page, new_page, rising_of, has_of, keep_put, keep_new, inserted, on_ok}

@@ -1,6 +1,0 @@
-use Rattle.std.proofs.Common.{◌≡◌, take}
-use Rattle.input_tables.specs.Sums.{added}
-use Rattle.input_tables.proofs.sums.put_on.Given as goal
-
-abbrev pub invariant-loop-column : goal.invariant-loop-column
-invariant-loop-column l = l.sums.items ≡ added l.fn.sums.items (take l.column l.values)
