@@ -1,3 +1,4 @@
 pub mod Beginnings
 pub mod Digits
+pub mod Rest
 pub mod Shown
