@@ -4,4 +4,6 @@ pub mod Readings
 pub mod Meant
 pub mod Slots
 pub mod Padded
+pub mod RangeEnds
 pub mod Rows
+pub mod Stopped
