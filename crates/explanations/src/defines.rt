@@ -8,31 +8,34 @@ use linked_program::violation::Rule;
 use meaning::tree::Program;
 use procedure_parser::parse;
 use std::alloc::{AllocError, Global};
-use std::fmt::Write;
+use text_page::Page;
 use token_scanner::{LONGEST_TEXT, Mark, Placed, Token, tokens};
 
 /// Puts the line of a text at which it can't go on as one of procedures, and what is wrong or was expected there, at the end of the text.
 /// Line 0 is a text that is too long. Want of memory is the only error.
 pub fn push_bad_define(
     alloc: Global,
-    text: &mut String,
+    text: &mut Page,
     define: &[u8],
     line: u32,
 ) -> Result<(), AllocError> {
     if line == 0 {
-        return push_line(text, "The text has more than 1,048,576 bytes.");
-    }
-    push_shown(text, define, line)?;
-    if let Some(wrong) = wrong_byte(line_at(define, line)) {
-        return push_line(text, wrong);
-    }
-    if let Some(wrong) = wrong_for_a_define(alloc, define, line)? {
-        return push_line(text, wrong);
-    }
-    if push_expected(alloc, text, define, line)? {
+        push_line(text, "The text has more than 1,048,576 bytes.");
         return Ok(());
     }
-    push_line(text, LOOKED_FOR)
+    push_shown(text, define, line);
+    if let Some(wrong) = wrong_byte(line_at(define, line)) {
+        push_line(text, wrong);
+        return Ok(());
+    }
+    if let Some(wrong) = wrong_for_a_define(alloc, define, line)? {
+        push_line(text, wrong);
+        return Ok(());
+    }
+    if !push_expected(alloc, text, define, line)? {
+        push_line(text, LOOKED_FOR);
+    }
+    Ok(())
 }
 
 // What is said of a text that a program could have, but no define.
@@ -73,7 +76,7 @@ fn has_reducer_on(tokens: &[Placed], line: u32) -> bool {
 /// the define, or of the text that a procedure of the program has come from. Want of memory is the only error.
 pub fn push_broken(
     alloc: Global,
-    text: &mut String,
+    text: &mut Page,
     define: &[u8],
     program: &Program,
     rule: Rule,
@@ -83,8 +86,9 @@ pub fn push_broken(
     if defines(alloc, define, holder)? {
         return push_broken_line(alloc, text, define, rule, line);
     }
-    push_older(text, program, holder, line)?;
-    push_rule(text, rule)
+    push_older(text, program, holder, line);
+    push_rule(text, rule);
+    Ok(())
 }
 
 // Whether a text defines the procedure of that name.
@@ -110,26 +114,22 @@ fn defines_in(tokens: &[Placed], name: &str) -> bool {
 }
 
 // Puts the statement on that line of a procedure which the program has already.
-fn push_older(
-    text: &mut String,
-    program: &Program,
-    holder: &str,
-    line: u32,
-) -> Result<(), AllocError> {
-    write!(
-        text,
-        "  It is `{holder}`, which stays as it is, that would break a rule"
-    )?;
+fn push_older(text: &mut Page, program: &Program, holder: &str, line: u32) {
+    text.put_named(
+        "  It is `",
+        holder,
+        "`, which stays as it is, that would break a rule",
+    );
     let Some(procedure) = procedure_called(program, holder) else {
-        return text.push_str(".\n");
+        return text.put(".\n");
     };
-    text.push_str(":\n")?;
+    text.put(":\n");
     match statement_on(procedure, line) {
-        None => Ok(()),
+        None => {}
         Some(statement) => {
-            write!(text, "  {line} | ")?;
-            push_statement(text, procedure, &statement.action)?;
-            text.push_str("\n")
+            text.put_count("  ", u64::from(line), " | ");
+            push_statement(text, procedure, &statement.action);
+            text.put("\n")
         }
     }
 }

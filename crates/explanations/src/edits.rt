@@ -6,7 +6,7 @@ use input_tables::{RowError, Tables};
 use meaning::tree::Program;
 use session_edits::{Edit, EditError};
 use std::alloc::{AllocError, Global};
-use std::fmt::Write;
+use text_page::Page;
 
 // How many names are listed at most.
 const MOST_LISTED: usize = 8;
@@ -15,57 +15,56 @@ const MOST_LISTED: usize = 8;
 /// Want of memory is the only error.
 pub fn push_refused(
     alloc: Global,
-    text: &mut String,
+    text: &mut Page,
     edit: &Edit<'_>,
     error: &EditError,
     program: &Program,
     tables: &Tables,
 ) -> Result<(), AllocError> {
     match error {
-        EditError::Row(error) => push_row_refused(text, edit, error, tables),
+        EditError::Row(error) => {
+            push_row_refused(text, edit, error, tables);
+            Ok(())
+        }
         EditError::BadText { line } => push_bad_define(alloc, text, text_in(edit), *line),
         EditError::Broken { rule, holder, line } => {
             push_broken(alloc, text, text_in(edit), program, *rule, holder, *line)
         }
-        EditError::Exhausted => push_exhausted(text),
+        EditError::Exhausted => {
+            push_exhausted(text);
+            Ok(())
+        }
     }
 }
 
-fn push_row_refused(
-    text: &mut String,
-    edit: &Edit<'_>,
-    error: &RowError,
-    tables: &Tables,
-) -> Result<(), AllocError> {
+fn push_row_refused(text: &mut Page, edit: &Edit<'_>, error: &RowError, tables: &Tables) {
+    let (table, row, given) = row_in(edit);
     match error {
-        RowError::UnknownTable => push_unknown_table(text, table_in(edit), tables),
-        RowError::WrongColumns => push_wrong_columns(text, edit, tables),
-        RowError::RowRange => push_row_range(text, edit),
-        RowError::NoRow => push_no_row(text, edit, tables),
+        RowError::UnknownTable => push_unknown_table(text, table, tables),
+        RowError::WrongColumns => push_wrong_columns(text, table, row, given, tables),
+        RowError::RowRange => text.put_number(
+            "  A row's number is one of 0 to 2147483647, and ",
+            row,
+            " isn't. It stands behind the table's name.\n",
+        ),
+        RowError::NoRow => push_no_row(text, table, row, tables),
         RowError::Exhausted => push_exhausted(text),
     }
 }
 
-fn push_exhausted(text: &mut String) -> Result<(), AllocError> {
+fn push_exhausted(text: &mut Page) {
     push_line(
         text,
         "No number is left to count it by. A session that is begun anew counts from 0.",
     )
 }
 
-// The table that an edit speaks of.
-fn table_in<'a>(edit: &'a Edit<'_>) -> &'a str {
+// The table and the row that an edit speaks of, and how many values it gives the row.
+fn row_in<'a>(edit: &'a Edit<'_>) -> (&'a str, i64, usize) {
     match edit {
-        Edit::Put { table, .. } | Edit::Delete { table, .. } => table,
-        Edit::Define(_) => "",
-    }
-}
-
-// The row that an edit speaks of.
-fn row_in(edit: &Edit<'_>) -> i64 {
-    match edit {
-        Edit::Put { row, .. } | Edit::Delete { row, .. } => *row,
-        Edit::Define(_) => 0,
+        Edit::Put { table, row, values } => (table, *row, values.len()),
+        Edit::Delete { table, row } => (table, *row, 0),
+        Edit::Define(_) => ("", 0, 0),
     }
 }
 
@@ -77,60 +76,49 @@ fn text_in<'a>(edit: &'a Edit<'_>) -> &'a [u8] {
     }
 }
 
-// How many values an edit gives a row.
-fn values_in(edit: &Edit<'_>) -> usize {
-    match edit {
-        Edit::Put { values, .. } => values.len(),
-        _ => 0,
-    }
-}
-
-fn push_unknown_table(text: &mut String, table: &str, tables: &Tables) -> Result<(), AllocError> {
-    write!(text, "  There is no table `{table}`. ")?;
+fn push_unknown_table(text: &mut Page, table: &str, tables: &Tables) {
+    text.put_named("  There is no table `", table, "`. ");
     if tables.count() == 0 {
-        return text.push_str("The tables' file has none.\n");
+        return text.put("The tables' file has none.\n");
     }
-    text.push_str("The tables are ")?;
+    text.put("The tables are ");
     for number in 0..tables.count().min(MOST_LISTED) {
-        push_listed(text, number, tables.name(number))?;
+        push_listed(text, number, tables.name(number));
     }
     push_rest(text, tables.count())
 }
 
 // Puts one more name of a list.
-fn push_listed(text: &mut String, number: usize, name: &str) -> Result<(), AllocError> {
+fn push_listed(text: &mut Page, number: usize, name: &str) {
     if number > 0 {
-        text.push_str(", ")?;
+        text.put(", ");
     }
-    write!(text, "`{name}`")
+    text.put_named("`", name, "`");
 }
 
 // Puts the end of a list of so many names.
-fn push_rest(text: &mut String, names: usize) -> Result<(), AllocError> {
+fn push_rest(text: &mut Page, names: usize) {
     if names > MOST_LISTED {
         let more = names - MOST_LISTED;
-        write!(text, " and {more} more")?;
+        text.put_count(" and ", more as u64, " more");
     }
-    text.push_str(".\n")
+    text.put(".\n")
 }
 
-fn push_wrong_columns(
-    text: &mut String,
-    edit: &Edit<'_>,
-    tables: &Tables,
-) -> Result<(), AllocError> {
-    let (table, row) = (table_in(edit), row_in(edit));
+fn push_wrong_columns(text: &mut Page, table: &str, row: i64, given: usize, tables: &Tables) {
     let Some(number) = tables.table(table) else {
-        return Ok(());
+        return;
     };
     let columns = tables.columns(number);
-    push_given(text, values_in(edit))?;
-    push_wanted(text, table, columns.len())?;
+    push_given(text, given);
+    push_wanted(text, table, columns.len());
     for (number, column) in columns.iter().enumerate() {
-        push_listed(text, number, column)?;
+        push_listed(text, number, column);
     }
     let values = values_of(columns.len());
-    write!(text, ".\n  Write `put {table} {row}` and then {values}.\n")
+    text.put_named(".\n  Write `put ", table, " ");
+    text.put_number("", row, "");
+    text.put_named("` and then ", values, ".\n");
 }
 
 // How many values a row of so many columns has, in words.
@@ -147,45 +135,36 @@ fn values_of(columns: usize) -> &'static str {
     }
 }
 
-fn push_given(text: &mut String, given: usize) -> Result<(), AllocError> {
+fn push_given(text: &mut Page, given: usize) {
     if given == 1 {
-        return text.push_str("  There is one value here, ");
+        return text.put("  There is one value here, ");
     }
-    write!(text, "  There are {given} values here, ")
+    text.put_count("  There are ", given as u64, " values here, ");
 }
 
-fn push_wanted(text: &mut String, table: &str, columns: usize) -> Result<(), AllocError> {
+fn push_wanted(text: &mut Page, table: &str, columns: usize) {
     if columns == 1 {
-        return write!(text, "and a row of `{table}` has one: ");
+        text.put_named("and a row of `", table, "` has one: ");
+        return;
     }
-    write!(text, "and a row of `{table}` has {columns}: ")
+    text.put_named("and a row of `", table, "` has ");
+    text.put_count("", columns as u64, ": ");
 }
 
-fn push_row_range(text: &mut String, edit: &Edit<'_>) -> Result<(), AllocError> {
-    let row = row_in(edit);
-    write!(
-        text,
-        "  A row's number is one of 0 to 2147483647, and {row} isn't. It stands behind the table's name.\n"
-    )
-}
-
-fn push_no_row(text: &mut String, edit: &Edit<'_>, tables: &Tables) -> Result<(), AllocError> {
-    let (table, row) = (table_in(edit), row_in(edit));
-    write!(
-        text,
-        "  The table `{table}` has no row {row}, so none can be deleted. "
-    )?;
+fn push_no_row(text: &mut Page, table: &str, row: i64, tables: &Tables) {
+    text.put_named("  The table `", table, "` has no row ");
+    text.put_number("", row, ", so none can be deleted. ");
     match tables.table(table) {
         Some(number) => push_greatest(text, tables.limit(number)),
-        None => text.push_str("\n"),
+        None => text.put("\n"),
     }
 }
 
 // Puts what the greatest row of a table is.
-fn push_greatest(text: &mut String, limit: i64) -> Result<(), AllocError> {
+fn push_greatest(text: &mut Page, limit: i64) {
     if limit <= 0 {
-        return text.push_str("It has no rows at all.\n");
+        return text.put("It has no rows at all.\n");
     }
     let greatest = limit - 1;
-    write!(text, "Its greatest row is {greatest}.\n")
+    text.put_number("Its greatest row is ", greatest, ".\n");
 }

@@ -6,6 +6,7 @@ use crate::marks::{begins_declaration, mark_of, push_token};
 use crate::programs::{line_at, push_bytes};
 use procedure_parser::{TextError, parse};
 use std::alloc::{AllocError, Global};
+use text_page::Page;
 use token_scanner::{LONGEST_TEXT, Placed, Token, tokens};
 
 // The longest beginning of a declaration that is read again with each word that could follow it, in bytes.
@@ -16,7 +17,7 @@ const LONGEST_BEGINNING: usize = 65_536;
 /// memory is the only error.
 pub fn push_expected(
     alloc: Global,
-    text: &mut String,
+    text: &mut Page,
     program: &[u8],
     line: u32,
 ) -> Result<bool, AllocError> {
@@ -35,9 +36,9 @@ pub fn push_expected(
         return Ok(false);
     }
     let words = line_at(program, line);
-    push_place(text, &tokens, at, words)?;
+    push_place(text, &tokens, at, words);
     push_wanted(alloc, text, beginning.as_str(), tokens.get(at))?;
-    push_habit(text, &tokens, at, words)?;
+    push_habit(text, &tokens, at, words);
     Ok(true)
 }
 
@@ -83,68 +84,64 @@ fn written(
     to: usize,
     behind: char,
 ) -> Result<String, AllocError> {
-    let mut text = String::new(alloc);
+    let mut text = Page::new(alloc);
     for (number, placed) in tokens.iter().enumerate() {
         if from <= number && number < to {
-            push_token(&mut text, placed.token)?;
-            text.push(behind)?;
+            push_token(&mut text, placed.token);
+            text.push(behind);
         }
     }
-    Ok(text)
+    text.whole()
 }
 
 // Puts which token, of that line, can't stand behind which one at the end of the text.
-fn push_place(
-    text: &mut String,
-    tokens: &[Placed],
-    at: usize,
-    line: &[u8],
-) -> Result<(), AllocError> {
+fn push_place(text: &mut Page, tokens: &[Placed], at: usize, line: &[u8]) {
     match tokens.get(at) {
-        None => text.push_str("  The text can't end")?,
-        Some(placed) => push_refused(text, placed.token, line)?,
+        None => text.put("  The text can't end"),
+        Some(placed) => push_refused(text, placed.token, line),
     }
     if at == 0 {
-        return text.push_str(" at the beginning. ");
+        return text.put(" at the beginning. ");
     }
     match tokens.get(at - 1) {
-        None => text.push_str(" there. "),
+        None => text.put(" there. "),
         Some(before) => push_before(text, before.token),
     }
 }
 
 // Puts the token that can't stand there, and is of that line, at the end of the text. One that is none of the language is the line's
 // first such, since a text is refused at the first.
-fn push_refused(text: &mut String, token: Token<'_>, line: &[u8]) -> Result<(), AllocError> {
-    text.push_str("  `")?;
+fn push_refused(text: &mut Page, token: Token<'_>, line: &[u8]) {
+    text.put("  `");
     match token {
-        Token::Bad => push_bytes(text, odd_in(line))?,
-        token => push_token(text, token)?,
+        Token::Bad => push_bytes(text, odd_in(line)),
+        token => push_token(text, token),
     }
-    text.push_str("` can't stand")
+    text.put("` can't stand")
 }
 
-fn push_before(text: &mut String, before: Token<'_>) -> Result<(), AllocError> {
-    text.push_str(" behind `")?;
-    push_token(text, before)?;
-    text.push_str("`. ")
+fn push_before(text: &mut Page, before: Token<'_>) {
+    text.put(" behind `");
+    push_token(text, before);
+    text.put("`. ")
 }
 
 // Puts what could stand behind a beginning in the place of the token that is refused there at the end of the text.
 fn push_wanted(
     alloc: Global,
-    text: &mut String,
+    text: &mut Page,
     beginning: &str,
     refused: Option<&Placed<'_>>,
 ) -> Result<(), AllocError> {
-    let mut followers = String::new(alloc);
-    push_followers(alloc, &mut followers, beginning)?;
+    let mut page = Page::new(alloc);
+    push_followers(alloc, &mut page, beginning)?;
+    let followers = page.whole()?;
     if followers.is_empty() || is_one_too_many(alloc, beginning, refused)? {
-        return text.push_str("A limit is passed there: docs/LANGUAGE.md has them.\n");
+        text.put("A limit is passed there: docs/LANGUAGE.md has them.\n");
+    } else {
+        text.put_named("Expected: ", followers.as_str(), ".\n");
     }
-    text.push_str("Expected: ")?;
-    text.push_str(followers.as_str())?;
-    text.push_str(".\n")
+    Ok(())
 }
 
 // Whether a token that is refused could stand there if there were fewer declarations, or if it were a smaller number.
@@ -162,8 +159,9 @@ fn is_one_too_many(
             may_follow(alloc, beginning, "0")? || may_follow(alloc, beginning, "1")?,
         ),
         token => {
-            let mut word = String::new(alloc);
-            push_token(&mut word, token)?;
+            let mut page = Page::new(alloc);
+            push_token(&mut page, token);
+            let word = page.whole()?;
             may_follow(alloc, beginning, word.as_str())
         }
     }

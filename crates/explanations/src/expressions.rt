@@ -1,8 +1,7 @@
 //! Expressions, as a text might have them.
 
 use meaning::tree::{Expr, Operator, Procedure};
-use std::alloc::AllocError;
-use std::fmt::Write;
+use text_page::Page;
 
 // How many calls of this file are nested at most; an expression has 64 levels.
 const MOST_NESTED: u32 = 512;
@@ -26,87 +25,61 @@ pub fn variable(procedure: &Procedure, number: usize) -> &str {
     }
 }
 
-/// Puts an expression, with as few parentheses as it can have, at the end of the text. Want of memory is the only error.
-pub fn push_expression(
-    text: &mut String,
-    procedure: &Procedure,
-    expression: &Expr,
-) -> Result<(), AllocError> {
+/// Puts an expression, with as few parentheses as it can have, at the end of the text.
+pub fn push_expression(text: &mut Page, procedure: &Procedure, expression: &Expr) {
     push_part(text, procedure, expression, COMPARISON, MOST_NESTED)
 }
 
 // Puts a part of an expression, in parentheses where it doesn't hold together as tightly as it has to there.
 #[cycle(writing)]
-fn push_part(
-    text: &mut String,
-    procedure: &Procedure,
-    expression: &Expr,
-    least: u8,
-    left: u32,
-) -> Result<(), AllocError> {
+fn push_part(text: &mut Page, procedure: &Procedure, expression: &Expr, least: u8, left: u32) {
     if left == 0 {
-        return text.push_str("..");
+        return text.put("..");
     }
     if tightness(expression) >= least {
         return push_bare(text, procedure, expression, left - 1);
     }
-    text.push_str("(")?;
-    push_bare(text, procedure, expression, left - 1)?;
-    text.push_str(")")
+    text.put("(");
+    push_bare(text, procedure, expression, left - 1);
+    text.put(")")
 }
 
 // Puts an expression without parentheses of its own.
 #[cycle(writing)]
-fn push_bare(
-    text: &mut String,
-    procedure: &Procedure,
-    expression: &Expr,
-    left: u32,
-) -> Result<(), AllocError> {
+fn push_bare(text: &mut Page, procedure: &Procedure, expression: &Expr, left: u32) {
     if left == 0 {
-        return text.push_str("..");
+        return text.put("..");
     }
     match expression {
-        Expr::Number(number) => write!(text, "{number}"),
-        Expr::Name(number) => text.push_str(variable(procedure, *number)),
-        Expr::Limit(table) => write!(text, "limit {table}"),
-        Expr::Sum(table, column) => write!(text, "sum {table}.{column}"),
+        Expr::Number(number) => text.put_number("", *number, ""),
+        Expr::Name(number) => text.put(variable(procedure, *number)),
+        Expr::Limit(table) => text.put_named("limit ", table, ""),
+        Expr::Sum(table, column) => {
+            text.put_named("sum ", table, ".");
+            text.put(column);
+        }
         Expr::Cell(table, row, column) => {
-            push_row(text, procedure, table, row, left - 1)?;
-            write!(text, ".{column}")
+            text.put(table);
+            text.put("[");
+            push_part(text, procedure, row, COMPARISON, left - 1);
+            text.put_named("].", column, "");
         }
         Expr::Has(table, row) => {
-            text.push_str("has ")?;
-            push_row(text, procedure, table, row, left - 1)
+            text.put_named("has ", table, "[");
+            push_part(text, procedure, row, COMPARISON, left - 1);
+            text.put("]");
         }
         Expr::Negate(inner) => {
-            text.push_str("-")?;
+            text.put("-");
             push_part(text, procedure, inner, UNARY, left - 1)
         }
         Expr::Binary(operator, first, second) => {
             let own = level_of(*operator);
-            push_part(text, procedure, first, least_before(own), left - 1)?;
-            text.push_str(sign_of(*operator))?;
+            push_part(text, procedure, first, least_before(own), left - 1);
+            text.put(sign_of(*operator));
             push_part(text, procedure, second, own.saturating_add(1), left - 1)
         }
     }
-}
-
-// Puts a table with a row of it.
-#[cycle(writing)]
-fn push_row(
-    text: &mut String,
-    procedure: &Procedure,
-    table: &str,
-    row: &Expr,
-    left: u32,
-) -> Result<(), AllocError> {
-    if left == 0 {
-        return text.push_str("..");
-    }
-    write!(text, "{table}[")?;
-    push_part(text, procedure, row, COMPARISON, left - 1)?;
-    text.push_str("]")
 }
 
 // How tightly an expression holds together.

@@ -2,6 +2,7 @@
 
 use procedure_parser::{TextError, parse};
 use std::alloc::{AllocError, Global};
+use text_page::Page;
 
 // A word that a text may have, what it is called, and words that tell of it where they may stand too.
 struct Follower(&'static str, &'static str, &'static [&'static str]);
@@ -44,21 +45,21 @@ const FOLLOWERS: [Follower; 33] = [
 ];
 
 /// Puts what may follow such a beginning, which is one line, into an empty text; a comma between two. Want of memory is the only error.
-pub fn push_followers(alloc: Global, text: &mut String, beginning: &str) -> Result<(), AllocError> {
+pub fn push_followers(alloc: Global, text: &mut Page, beginning: &str) -> Result<(), AllocError> {
     for follower in FOLLOWERS.iter() {
         if is_told(alloc, beginning, follower)? {
-            push_next(text, follower.1)?;
+            push_next(text, follower.1);
         }
     }
     Ok(())
 }
 
 // Puts one more word at the end of a list.
-fn push_next(text: &mut String, word: &str) -> Result<(), AllocError> {
+fn push_next(text: &mut Page, word: &str) {
     if !text.is_empty() {
-        text.push_str(", ")?;
+        text.put(", ");
     }
-    text.push_str(word)
+    text.put(word)
 }
 
 // Whether a word may follow a beginning, and nothing else tells of it there.
@@ -77,10 +78,11 @@ fn is_told(alloc: Global, beginning: &str, follower: &Follower) -> Result<bool, 
 /// Whether a text may go on with a word behind such a beginning, which is one line; the empty word is the text's end. Want of memory is
 /// the only error.
 pub fn may_follow(alloc: Global, beginning: &str, word: &str) -> Result<bool, AllocError> {
-    let mut text = String::new(alloc);
-    text.push_str(beginning)?;
-    text.push_str(word)?;
-    text.push_str("\n")?;
+    let mut page = Page::new(alloc);
+    page.put(beginning);
+    page.put(word);
+    page.put("\n");
+    let text = page.whole()?;
     match parse(alloc, text.as_bytes()) {
         Ok(_) => Ok(true),
         Err(TextError::NoMemory) => Err(AllocError),

@@ -2,7 +2,7 @@
 
 use crate::rules::push_line;
 use std::alloc::{AllocError, Global};
-use std::fmt::Write;
+use text_page::Page;
 use token_scanner::{LONGEST_TEXT, Mark, Placed, Token, tokens};
 
 // The greatest number of bytes that a name may have.
@@ -18,15 +18,10 @@ const NO_NOT: &str =
     "There is no `not` or `!`: write `(a < b) == 0`, since a comparison gives 1 or 0.";
 
 /// Puts how one does without what the token of that number is in other languages, or is behind the word in front of it, at the end of
-/// the text; nothing where it is nothing such. The line is the token's. Want of memory is the only error.
-pub fn push_habit(
-    text: &mut String,
-    tokens: &[Placed],
-    at: usize,
-    line: &[u8],
-) -> Result<(), AllocError> {
+/// the text; nothing where it is nothing such. The line is the token's.
+pub fn push_habit(text: &mut Page, tokens: &[Placed], at: usize, line: &[u8]) {
     let Some(refused) = tokens.get(at) else {
-        return Ok(());
+        return;
     };
     let before = name_before(tokens, at);
     match refused.token {
@@ -34,12 +29,17 @@ pub fn push_habit(
         Token::Name("or") => push_line(text, NO_OR),
         Token::Name("not") => push_line(text, NO_NOT),
         Token::Bad => push_odd_habit(text, line),
-        Token::Sign(Mark::OpenParen) if before != "" && before != "not" => write!(
-            text,
-            "  A procedure is entered by `call {before}(..)` or `spawn {before}(..)`: by itself, or behind a name and `=`.\n"
-        ),
+        Token::Sign(Mark::OpenParen) if before != "" && before != "not" => {
+            text.put_named(
+                "  A procedure is entered by `call ",
+                before,
+                "(..)` or `spawn ",
+            );
+            text.put(before);
+            text.put("(..)`: by itself, or behind a name and `=`.\n");
+        }
         _ if before == "not" => push_line(text, NO_NOT),
-        _ => Ok(()),
+        _ => {}
     }
 }
 
@@ -57,7 +57,7 @@ fn name_before<'a>(tokens: &[Placed<'a>], at: usize) -> &'a str {
     }
 }
 
-fn push_odd_habit(text: &mut String, line: &[u8]) -> Result<(), AllocError> {
+fn push_odd_habit(text: &mut Page, line: &[u8]) {
     let odd = odd_in(line);
     match odd.first() {
         Some(b'&') => push_line(text, NO_AND),
@@ -75,7 +75,7 @@ fn push_odd_habit(text: &mut String, line: &[u8]) -> Result<(), AllocError> {
             text,
             "A name is a lower-case letter and then lower-case letters, digits and `_`, at most 32 bytes.",
         ),
-        _ => Ok(()),
+        _ => {}
     }
 }
 

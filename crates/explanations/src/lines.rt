@@ -2,12 +2,11 @@
 
 use crate::programs::{push_line_shown, wrong_byte};
 use crate::rules::push_line;
-use std::alloc::AllocError;
+use text_page::Page;
 
-/// Puts a line of a script that is no command, with its number, and what is wrong with it, at the end of the text. Want of memory is
-/// the only error.
-pub fn push_unknown(text: &mut String, words: &[u8], number: usize) -> Result<(), AllocError> {
-    push_line_shown(text, words, number)?;
+/// Puts a line of a script that is no command, with its number, and what is wrong with it, at the end of the text.
+pub fn push_unknown(text: &mut Page, words: &[u8], number: usize) {
+    push_line_shown(text, words, number);
     match wrong_byte(words) {
         Some(wrong) => push_line(text, wrong),
         None => push_line(text, wrong_with(words)),

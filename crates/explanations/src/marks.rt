@@ -1,17 +1,15 @@
 //! Tokens as they are written.
 
-use std::alloc::AllocError;
-use std::fmt::Write;
+use text_page::Page;
 use token_scanner::{Mark, Token};
 
-/// Puts a token, as a text has it, at the end of the text; in place of what is no token stands `!`, which is none either. Want of
-/// memory is the only error.
-pub fn push_token(text: &mut String, token: Token<'_>) -> Result<(), AllocError> {
+/// Puts a token, as a text has it, at the end of the text; in place of what is no token stands `!`, which is none either.
+pub fn push_token(text: &mut Page, token: Token<'_>) {
     match token {
-        Token::Name(name) => text.push_str(name),
-        Token::Number(number) => write!(text, "{number}"),
-        Token::Sign(mark) => text.push_str(written(mark)),
-        Token::Bad => text.push_str("!"),
+        Token::Name(name) => text.put(name),
+        Token::Number(number) => text.put_number("", number, ""),
+        Token::Sign(mark) => text.put(written(mark)),
+        Token::Bad => text.put("!"),
     }
 }
 

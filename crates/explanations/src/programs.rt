@@ -5,7 +5,7 @@ use crate::rules::{push_line, push_rule_on};
 use crate::tables::is_of_tables;
 use linked_program::violation::Rule;
 use std::alloc::{AllocError, Global};
-use std::fmt::Write;
+use text_page::Page;
 
 // What the longest line that is shown has.
 const MOST_SHOWN: usize = 120;
@@ -19,39 +19,42 @@ pub(crate) const LOOKED_FOR: &str =
 /// text that is too long. Want of memory is the only error.
 pub fn push_bad_program(
     alloc: Global,
-    text: &mut String,
+    text: &mut Page,
     program: &[u8],
     line: u32,
 ) -> Result<(), AllocError> {
     if line == 0 {
-        return push_line(text, "The text has more than 1,048,576 bytes.");
+        push_line(text, "The text has more than 1,048,576 bytes.");
+        return Ok(());
     }
-    push_shown(text, program, line)?;
+    push_shown(text, program, line);
     if is_of_tables(alloc, program)? {
-        return push_line(
+        push_line(
             text,
             "These are tables: PROGRAM, the file of the program, comes first, and TABLES behind it.",
         );
-    }
-    if let Some(wrong) = wrong_byte(line_at(program, line)) {
-        return push_line(text, wrong);
-    }
-    if push_expected(alloc, text, program, line)? {
         return Ok(());
     }
-    push_line(text, LOOKED_FOR)
+    if let Some(wrong) = wrong_byte(line_at(program, line)) {
+        push_line(text, wrong);
+        return Ok(());
+    }
+    if !push_expected(alloc, text, program, line)? {
+        push_line(text, LOOKED_FOR);
+    }
+    Ok(())
 }
 
 /// Puts the line of a text that breaks a rule, what the rule asks for and how to mend it at the end of the text. Line 0 is none. Want of
 /// memory is the only error.
 pub fn push_broken_line(
     alloc: Global,
-    text: &mut String,
+    text: &mut Page,
     program: &[u8],
     rule: Rule,
     line: u32,
 ) -> Result<(), AllocError> {
-    push_shown(text, program, line)?;
+    push_shown(text, program, line);
     push_rule_on(alloc, text, rule, line_at(program, line))
 }
 
@@ -106,37 +109,32 @@ pub(crate) fn line_at(program: &[u8], line: u32) -> &[u8] {
 }
 
 /// Puts the line of that number of a text, counted from 1, at the end of the text, as far as it isn't too long to be shown; nothing for
-/// line 0. What isn't a byte of a program is shown as a question mark. Want of memory is the only error.
-pub fn push_shown(text: &mut String, program: &[u8], line: u32) -> Result<(), AllocError> {
+/// line 0. What isn't a byte of a program is shown as a question mark.
+pub fn push_shown(text: &mut Page, program: &[u8], line: u32) {
     if line == 0 {
-        return Ok(());
+        return;
     }
     push_line_shown(text, line_at(program, line), line as usize)
 }
 
 /// Puts a line that is given by itself, with its number, at the end of the text as `push_shown` does.
-pub(crate) fn push_line_shown(
-    text: &mut String,
-    words: &[u8],
-    number: usize,
-) -> Result<(), AllocError> {
-    write!(text, "  {number} | ")?;
-    push_bytes(text, words)?;
-    text.push_str("\n")
+pub(crate) fn push_line_shown(text: &mut Page, words: &[u8], number: usize) {
+    text.put_count("  ", number as u64, " | ");
+    push_bytes(text, words);
+    text.put("\n")
 }
 
 /// Puts bytes at the end of the text, as far as they aren't too many to be shown.
-pub(crate) fn push_bytes(text: &mut String, words: &[u8]) -> Result<(), AllocError> {
+pub(crate) fn push_bytes(text: &mut Page, words: &[u8]) {
     for byte in words.iter().take(MOST_SHOWN) {
         let shown = if is_of_a_text(*byte) {
             *byte as char
         } else {
             '?'
         };
-        text.push(shown)?;
+        text.push(shown);
     }
     if words.len() > MOST_SHOWN {
-        text.push_str(" ..")?;
+        text.put(" ..");
     }
-    Ok(())
 }

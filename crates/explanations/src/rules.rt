@@ -3,36 +3,38 @@
 use crate::habits::binds_itself;
 use linked_program::violation::Rule;
 use std::alloc::{AllocError, Global};
+use text_page::Page;
 
-/// Puts what a broken rule asks for, and how to mend what breaks it, at the end of the text: two lines. Want of memory is the only
-/// error.
-pub(crate) fn push_rule(text: &mut String, rule: Rule) -> Result<(), AllocError> {
-    push_line(text, asked_by(rule))?;
+/// Puts what a broken rule asks for, and how to mend what breaks it, at the end of the text: two lines.
+pub(crate) fn push_rule(text: &mut Page, rule: Rule) {
+    push_line(text, asked_by(rule));
     push_line(text, mended_by(rule))
 }
 
 /// Puts that at the end of the text for a rule that a line is known to break, whose words it may name.
 pub(crate) fn push_rule_on(
     alloc: Global,
-    text: &mut String,
+    text: &mut Page,
     rule: Rule,
     line: &[u8],
 ) -> Result<(), AllocError> {
     if matches!(rule, Rule::Twice) && binds_itself(alloc, line)? {
-        push_line(text, asked_by(rule))?;
-        return push_line(
+        push_line(text, asked_by(rule));
+        push_line(
             text,
             "Bind another name, as `y = x + 1;`; what adds up over rows or calls is a reducer of kind `add`: `update total v;`.",
         );
+        return Ok(());
     }
-    push_rule(text, rule)
+    push_rule(text, rule);
+    Ok(())
 }
 
-/// Puts a line, a little to the right, at the end of the text. Want of memory is the only error.
-pub fn push_line(text: &mut String, words: &str) -> Result<(), AllocError> {
-    text.push_str("  ")?;
-    text.push_str(words)?;
-    text.push_str("\n")
+/// Puts a line, a little to the right, at the end of the text.
+pub fn push_line(text: &mut Page, words: &str) {
+    text.put("  ");
+    text.put(words);
+    text.put("\n")
 }
 
 // What a rule asks for.

@@ -4,7 +4,8 @@ use crate::programs::{has_byte, line_at, push_shown};
 use crate::rules::push_line;
 use std::alloc::{AllocError, Global};
 use std::collections::BTreeSet;
-use std::fmt::Write;
+use text_page::Page;
+use token_scanner::{LONGEST_TEXT, Placed, Token, tokens};
 use toml::{Table as Members, Value};
 
 const MOST_TABLES: usize = 64;
@@ -13,31 +14,22 @@ const MOST_COLUMNS: usize = 8;
 
 const LAST_ROW: i64 = 2147483647;
 
-const LONGEST_NAME: usize = 32;
-
-const KEYWORDS: [&str; 17] = [
-    "reducer", "memo", "proc", "call", "spawn", "sync", "update", "if", "else", "cilk_for", "in",
-    "grain", "return", "read", "has", "limit", "sum",
-];
-
-/// Puts the line of a text that isn't TOML, and what the reader of TOML says of it, at the end of the text. Want of memory is the only
-/// error.
-pub fn push_bad_toml(alloc: Global, text: &mut String, tables: &str) -> Result<(), AllocError> {
+/// Puts the line of a text that isn't TOML, and what the reader of TOML says of it, at the end of the text.
+pub fn push_bad_toml(alloc: Global, text: &mut Page, tables: &str) {
     let Err(error) = toml::table_from_str(alloc, tables) else {
-        return Ok(());
+        return;
     };
     let bytes = tables.as_bytes();
     if let Some(span) = error.span() {
-        push_shown(text, bytes, line_of(bytes, span.start))?;
+        push_shown(text, bytes, line_of(bytes, span.start));
     }
-    push_line(text, error.message())?;
+    push_line(text, error.message());
     if is_of_commas(line_at(bytes, 1)) {
-        return push_line(
+        push_line(
             text,
             "It looks like a CSV file: `tools/tables_from_csv FILE.csv > tables.toml` makes tables of one.",
         );
     }
-    Ok(())
 }
 
 // The number of the line, counted from 1, that the byte of that number, counted from 0, is of.
@@ -84,7 +76,7 @@ fn has_table(document: &Members) -> bool {
 /// error.
 pub fn push_bad_table(
     alloc: Global,
-    text: &mut String,
+    text: &mut Page,
     tables: &str,
     name: &str,
 ) -> Result<(), AllocError> {
@@ -92,7 +84,8 @@ pub fn push_bad_table(
         return Ok(());
     };
     if document.len() > MOST_TABLES {
-        return push_line(text, "There are more than 64 tables.");
+        push_line(text, "There are more than 64 tables.");
+        return Ok(());
     }
     match document.get(name) {
         Some(value) => push_wrong(alloc, text, name, value),
@@ -101,32 +94,31 @@ pub fn push_bad_table(
 }
 
 // Puts the first that is wrong with a value that is no table of numbers.
-fn push_wrong(
-    alloc: Global,
-    text: &mut String,
-    name: &str,
-    value: &Value,
-) -> Result<(), AllocError> {
-    if !is_name(name) {
-        return push_line(
+fn push_wrong(alloc: Global, text: &mut Page, name: &str, value: &Value) -> Result<(), AllocError> {
+    if !is_name(alloc, name)? {
+        push_line(
             text,
             "A table's name is a lower-case letter and then lower-case letters, digits and `_`, at most 32 bytes, and no keyword.",
         );
+        return Ok(());
     }
     let Some(members) = value.as_table() else {
-        return push_line(
+        push_line(
             text,
             "This key has no table: write `[name]`, and `columns` and `rows` below it.",
         );
+        return Ok(());
     };
     let (Some(columns), Some(rows)) = (array_at(members, "columns"), array_at(members, "rows"))
     else {
-        return push_line(text, "`columns` or `rows` is missing, or is no array.");
+        push_line(text, "`columns` or `rows` is missing, or is no array.");
+        return Ok(());
     };
     if members.len() != 2 {
-        return push_line(text, "A table has no other keys than `columns` and `rows`.");
+        push_line(text, "A table has no other keys than `columns` and `rows`.");
+        return Ok(());
     }
-    if push_wrong_columns(text, columns)? {
+    if push_wrong_columns(alloc, text, columns)? {
         return Ok(());
     }
     push_wrong_rows(alloc, text, columns, rows)
@@ -141,19 +133,25 @@ fn array_at<'a>(members: &'a Members, key: &str) -> Option<&'a Vec<Value>> {
 }
 
 // Puts the first that is wrong with the columns, and answers whether there is such.
-fn push_wrong_columns(text: &mut String, columns: &[Value]) -> Result<bool, AllocError> {
+fn push_wrong_columns(
+    alloc: Global,
+    text: &mut Page,
+    columns: &[Value],
+) -> Result<bool, AllocError> {
     if columns.is_empty() || columns.len() > MOST_COLUMNS {
         let count = columns.len();
-        write!(
-            text,
-            "  A table has 1 to 8 columns, and `columns` has {count} entries.\n"
-        )?;
+        text.put_count(
+            "  A table has 1 to 8 columns, and `columns` has ",
+            count as u64,
+            " entries.\n",
+        );
         return Ok(true);
     }
     for (at, column) in columns.iter().enumerate() {
-        if let Some(wrong) = wrong_with_column(columns, at, column) {
+        if let Some(wrong) = wrong_with_column(alloc, columns, at, column)? {
             let entry = at.saturating_add(1);
-            write!(text, "  Entry {entry} of `columns`: {wrong}\n")?;
+            text.put_count("  Entry ", entry as u64, "");
+            text.put_named(" of `columns`: ", wrong, "\n");
             return Ok(true);
         }
     }
@@ -161,19 +159,24 @@ fn push_wrong_columns(text: &mut String, columns: &[Value]) -> Result<bool, Allo
 }
 
 // What is wrong with a column behind so many others.
-fn wrong_with_column(columns: &[Value], at: usize, column: &Value) -> Option<&'static str> {
+fn wrong_with_column(
+    alloc: Global,
+    columns: &[Value],
+    at: usize,
+    column: &Value,
+) -> Result<Option<&'static str>, AllocError> {
     let Some(name) = column.as_str() else {
-        return Some("a column is a text, in quotation marks.");
+        return Ok(Some("a column is a text, in quotation marks."));
     };
-    if !is_name(name) {
-        return Some(
+    if !is_name(alloc, name)? {
+        return Ok(Some(
             "a column's name is a lower-case letter and then lower-case letters, digits and `_`, at most 32 bytes, and no keyword.",
-        );
+        ));
     }
     if is_among(columns, at, name) {
-        return Some("an earlier column has that name.");
+        return Ok(Some("an earlier column has that name."));
     }
-    None
+    Ok(None)
 }
 
 // Whether one of so many first columns has that name.
@@ -189,7 +192,7 @@ fn is_among(columns: &[Value], count: usize, name: &str) -> bool {
 // Puts the first that is wrong with the rows.
 fn push_wrong_rows(
     alloc: Global,
-    text: &mut String,
+    text: &mut Page,
     columns: &[Value],
     rows: &[Value],
 ) -> Result<(), AllocError> {
@@ -199,26 +202,28 @@ fn push_wrong_rows(
             return Ok(());
         }
     }
-    push_line(text, "It isn't of the shape that docs/LANGUAGE.md gives.")
+    push_line(text, "It isn't of the shape that docs/LANGUAGE.md gives.");
+    Ok(())
 }
 
 // Puts the first that is wrong with an entry of the rows, and answers whether there is such; the row's number is put among the others.
 fn push_wrong_row(
-    text: &mut String,
+    text: &mut Page,
     numbers: &mut BTreeSet<i64>,
     columns: &[Value],
     entry: usize,
     row: &Value,
 ) -> Result<bool, AllocError> {
     let Some(cells) = row.as_array() else {
-        write!(
-            text,
-            "  Entry {entry} of `rows`: a row is an array, its number and then a value for each column.\n"
-        )?;
+        text.put_count(
+            "  Entry ",
+            entry as u64,
+            " of `rows`: a row is an array, its number and then a value for each column.\n",
+        );
         return Ok(true);
     };
-    if push_wrong_count(text, columns, entry, cells)?
-        || push_wrong_value(text, columns, entry, cells)?
+    if push_wrong_count(text, columns, entry, cells)
+        || push_wrong_value(text, columns, entry, cells)
     {
         return Ok(true);
     }
@@ -226,19 +231,19 @@ fn push_wrong_row(
         return Ok(false);
     };
     if number < 0 || LAST_ROW < number {
-        write!(
-            text,
-            "  Entry {entry} of `rows`: a row's number is one of 0 to 2147483647, and {number} isn't.\n"
-        )?;
+        text.put_count("  Entry ", entry as u64, "");
+        text.put_number(
+            " of `rows`: a row's number is one of 0 to 2147483647, and ",
+            number,
+            " isn't.\n",
+        );
         return Ok(true);
     }
     if numbers.insert(number)? {
         return Ok(false);
     }
-    write!(
-        text,
-        "  Entry {entry} of `rows`: an earlier row has the number {number}.\n"
-    )?;
+    text.put_count("  Entry ", entry as u64, "");
+    text.put_number(" of `rows`: an earlier row has the number ", number, ".\n");
     Ok(true)
 }
 
@@ -248,95 +253,69 @@ fn number_of(cells: &[Value]) -> Option<i64> {
 }
 
 // Puts that a row has too few or too many values, and answers whether it has.
-fn push_wrong_count(
-    text: &mut String,
-    columns: &[Value],
-    entry: usize,
-    cells: &[Value],
-) -> Result<bool, AllocError> {
+fn push_wrong_count(text: &mut Page, columns: &[Value], entry: usize, cells: &[Value]) -> bool {
     let wanted = columns.len();
     let found = cells.len().saturating_sub(1);
     if !cells.is_empty() && found == wanted {
-        return Ok(false);
+        return false;
     }
-    push_entry(text, entry, cells)?;
-    write!(
-        text,
-        "a row has its number and then one value for each column; columns {wanted}, values {found}.\n"
-    )?;
-    Ok(true)
-}
-
-// Puts which value of a row is no whole number, and answers whether one is.
-fn push_wrong_value(
-    text: &mut String,
-    columns: &[Value],
-    entry: usize,
-    cells: &[Value],
-) -> Result<bool, AllocError> {
-    for (place, cell) in cells.iter().enumerate() {
-        if !cell.is_integer() {
-            push_entry(text, entry, cells)?;
-            push_cell(text, columns, place)?;
-            text.push_str(" is no whole number of 64 bits.\n")?;
-            return Ok(true);
-        }
-    }
-    Ok(false)
-}
-
-// Puts which entry of the rows is spoken of, and its number, where it has one.
-fn push_entry(text: &mut String, entry: usize, cells: &[Value]) -> Result<(), AllocError> {
-    write!(text, "  Entry {entry} of `rows`")?;
-    if let Some(number) = number_of(cells) {
-        write!(text, ", row {number}")?;
-    }
-    text.push_str(": ")
-}
-
-// Puts which value of a row is spoken of: its number, which is the first, or that of a column.
-fn push_cell(text: &mut String, columns: &[Value], place: usize) -> Result<(), AllocError> {
-    if place == 0 {
-        return text.push_str("its number, the first value,");
-    }
-    let name = match columns.get(place - 1) {
-        Some(column) => column.as_str().unwrap_or(""),
-        None => "",
-    };
-    write!(text, "the value of `{name}`")
-}
-
-// Whether a text has the form of a name.
-fn is_name(text: &str) -> bool {
-    let bytes = text.as_bytes();
-    begins_name(bytes) && bytes.len() <= LONGEST_NAME && are_name_bytes(bytes) && !is_keyword(text)
-}
-
-fn begins_name(bytes: &[u8]) -> bool {
-    match bytes.first() {
-        Some(first) => first.is_ascii_lowercase(),
-        None => false,
-    }
-}
-
-fn are_name_bytes(bytes: &[u8]) -> bool {
-    for byte in bytes {
-        if !is_name_byte(*byte) {
-            return false;
-        }
-    }
+    push_entry(text, entry, cells);
+    text.put_count(
+        "a row has its number and then one value for each column; columns ",
+        wanted as u64,
+        ", values ",
+    );
+    text.put_count("", found as u64, ".\n");
     true
 }
 
-fn is_keyword(text: &str) -> bool {
-    for word in &KEYWORDS {
-        if *word == text {
+// Puts which value of a row is no whole number, and answers whether one is.
+fn push_wrong_value(text: &mut Page, columns: &[Value], entry: usize, cells: &[Value]) -> bool {
+    for (place, cell) in cells.iter().enumerate() {
+        if !cell.is_integer() {
+            push_entry(text, entry, cells);
+            push_cell(text, columns, place);
+            text.put(" is no whole number of 64 bits.\n");
             return true;
         }
     }
     false
 }
 
-fn is_name_byte(byte: u8) -> bool {
-    byte.is_ascii_lowercase() || byte.is_ascii_digit() || byte == b'_'
+// Puts which entry of the rows is spoken of, and its number, where it has one.
+fn push_entry(text: &mut Page, entry: usize, cells: &[Value]) {
+    text.put_count("  Entry ", entry as u64, " of `rows`");
+    if let Some(number) = number_of(cells) {
+        text.put_number(", row ", number, "");
+    }
+    text.put(": ")
+}
+
+// Puts which value of a row is spoken of: its number, which is the first, or that of a column.
+fn push_cell(text: &mut Page, columns: &[Value], place: usize) {
+    if place == 0 {
+        return text.put("its number, the first value,");
+    }
+    let name = match columns.get(place - 1) {
+        Some(column) => column.as_str().unwrap_or(""),
+        None => "",
+    };
+    text.put_named("the value of `", name, "`");
+}
+
+// Whether a text is a name by itself, as programs have them.
+fn is_name(alloc: Global, text: &str) -> Result<bool, AllocError> {
+    if text.len() > LONGEST_TEXT {
+        return Ok(false);
+    }
+    let tokens = tokens(alloc, text.as_bytes())?;
+    Ok(is_named(tokens.first(), text))
+}
+
+// Whether a token is that name.
+fn is_named(placed: Option<&Placed<'_>>, text: &str) -> bool {
+    match placed {
+        Some(placed) => matches!(placed.token, Token::Name(name) if name == text),
+        None => false,
+    }
 }

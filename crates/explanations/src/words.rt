@@ -1,7 +1,6 @@
 //! Which word of the program's line is wrong, by what its usage says.
 
-use std::alloc::AllocError;
-use std::fmt::Write;
+use text_page::Page;
 
 // What a line's words are not as the usage has it.
 #[derive(Clone, Copy)]
@@ -19,28 +18,41 @@ enum Mistake<'a> {
 }
 
 /// Puts which word of a line, whose first is the program's own name, isn't as the usage has it, at the end of the text: an option that there
-/// isn't, a value that is none of its option's, a word too many or a path that is missing. Want of memory is the only error.
-pub fn push_mistake(text: &mut String, usage: &str, words: &[&str]) -> Result<(), AllocError> {
+/// isn't, a value that is none of its option's, a word too many or a path that is missing.
+pub fn push_mistake(text: &mut Page, usage: &str, words: &[&str]) {
     match mistake_in(usage, words) {
-        Mistake::Nothing => Ok(()),
-        Mistake::NoOption(name) => write!(text, "  There is no option `{name}`.\n"),
-        Mistake::Twice(name) => write!(text, "  `{name}` stands twice.\n"),
-        Mistake::TakesNone(name) => write!(text, "  `{name}` takes no value.\n"),
-        Mistake::NoValue(value, form) => write!(text, "  `{value}` is no value of `{form}`.\n"),
+        Mistake::Nothing => {}
+        Mistake::NoOption(name) => {
+            text.put_named("  There is no option `", name, "`.\n");
+        }
+        Mistake::Twice(name) => {
+            text.put_named("  `", name, "` stands twice.\n");
+        }
+        Mistake::TakesNone(name) => {
+            text.put_named("  `", name, "` takes no value.\n");
+        }
+        Mistake::NoValue(value, form) => {
+            text.put_named("  `", value, "` is no value of `");
+            text.put(form);
+            text.put("`.\n");
+        }
         Mistake::ValueMissing(form) => {
-            write!(text, "  A value is missing at the end: `{form}`.\n")
+            text.put_named("  A value is missing at the end: `", form, "`.\n");
         }
-        Mistake::TooMany(word) => write!(
-            text,
-            "  `{word}` is a word too many: PROGRAM and TABLES stand before it.\n"
-        ),
+        Mistake::TooMany(word) => {
+            text.put_named(
+                "  `",
+                word,
+                "` is a word too many: PROGRAM and TABLES stand before it.\n",
+            );
+        }
         Mistake::Print => {
-            text.push_str("  `--print` stands with one path alone: `cilkreport --print PROGRAM`.\n")
+            text.put("  `--print` stands with one path alone: `cilkreport --print PROGRAM`.\n")
         }
-        Mistake::NoPaths => text.push_str(
+        Mistake::NoPaths => text.put(
             "  PROGRAM and TABLES are missing: the paths of the program's file and of the tables'.\n",
         ),
-        Mistake::NoTables => text.push_str(
+        Mistake::NoTables => text.put(
             "  TABLES is missing: the path of the tables' file, behind that of the program.\n",
         ),
     }

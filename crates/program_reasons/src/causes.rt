@@ -12,7 +12,7 @@ use positions::phase::Fault;
 use session_edits::{Edit, EditError};
 use session_notes::explained::Cause;
 use std::alloc::{AllocError, Global};
-use std::fmt::Write;
+use text_page::Page;
 use trace_report::answers;
 use trace_report::edits::push_edit_refusal;
 
@@ -30,78 +30,81 @@ pub fn explanation(
     checked: &Checked,
     tables: &Tables,
 ) -> Result<String, AllocError> {
-    let mut text = String::new(alloc);
+    let mut page = Page::new(alloc);
     match cause {
         Cause::Edit(edit, error) => {
-            push_edit(&mut text, edit)?;
-            push_edit_refusal(&mut text, error)?;
-            push_under_edit(alloc, &mut text, edit, error, checked, tables)?;
+            push_edit(&mut page, edit);
+            push_edit_refusal(&mut page.words, error)?;
+            push_under_edit(alloc, &mut page, edit, error, checked, tables)?;
         }
         Cause::Line(line, number) => {
-            answers::push_unknown(&mut text, number)?;
-            push_unknown(&mut text, line, number)?;
+            answers::push_unknown(&mut page.words, number)?;
+            push_unknown(&mut page, line, number);
         }
-        Cause::Fault(number, fault) => push_run(alloc, &mut text, number, *fault, checked, tables)?,
+        Cause::Fault(number, fault) => push_run(alloc, &mut page, number, *fault, checked, tables)?,
     }
-    Ok(text)
+    page.whole()
 }
 
-/// Puts who breaks a rule, a procedure or a reducer by its name, at the end of the text; nothing where there is no name. Want of memory is
-/// the only error.
-pub fn push_holder(text: &mut String, name: &str) -> Result<(), AllocError> {
-    if name.is_empty() {
-        return Ok(());
+/// Puts who breaks a rule, a procedure or a reducer by its name, at the end of the text; nothing where there is no name.
+pub fn push_holder(text: &mut Page, name: &str) {
+    if !name.is_empty() {
+        text.put_named("  It is `", name, "` that breaks a rule:\n");
     }
-    write!(text, "  It is `{name}` that breaks a rule:\n")
 }
 
 // Puts the lines under an edit that is refused. Those of a procedure that stays as it is say its name themselves.
 fn push_under_edit(
     alloc: Global,
-    text: &mut String,
+    text: &mut Page,
     edit: &Edit<'_>,
     error: &EditError,
     checked: &Checked,
     tables: &Tables,
 ) -> Result<(), AllocError> {
-    let mut under = String::new(alloc);
-    push_refused(alloc, &mut under, edit, error, checked.program(), tables)?;
+    let mut page = Page::new(alloc);
+    push_refused(alloc, &mut page, edit, error, checked.program(), tables)?;
+    let under = page.whole()?;
     if let EditError::Broken { holder, .. } = error {
         if !under.as_str().starts_with(HOLDER) {
-            push_holder(text, holder.as_str())?;
+            push_holder(text, holder.as_str());
         }
     }
-    text.push_str(under.as_str())
+    text.put(under.as_str());
+    Ok(())
 }
 
 // Puts an edit as it stands in a script, and a colon; of a define its first word.
-fn push_edit(text: &mut String, edit: &Edit<'_>) -> Result<(), AllocError> {
+fn push_edit(text: &mut Page, edit: &Edit<'_>) {
     match edit {
         Edit::Put { table, row, values } => {
-            write!(text, "put {table} {row}")?;
-            push_values(text, values)?;
-            text.push_str(": ")
+            text.put_named("put ", table, " ");
+            text.put_number("", *row, "");
+            push_values(text, values);
+            text.put(": ");
         }
-        Edit::Delete { table, row } => write!(text, "del {table} {row}: "),
-        Edit::Define(_) => text.push_str("define: "),
+        Edit::Delete { table, row } => {
+            text.put_named("del ", table, " ");
+            text.put_number("", *row, ": ");
+        }
+        Edit::Define(_) => text.put("define: "),
     }
 }
 
 // Puts values, each behind a space, as far as they aren't too many to be shown.
-fn push_values(text: &mut String, values: &[i64]) -> Result<(), AllocError> {
-    for value in values.iter().take(MOST_SHOWN) {
-        write!(text, " {value}")?;
+fn push_values(text: &mut Page, values: &[i64]) {
+    for place in 0..values.len().min(MOST_SHOWN) {
+        text.put_number(" ", values[place], "");
     }
     if values.len() > MOST_SHOWN {
-        return text.push_str(" ..");
+        text.put(" ..");
     }
-    Ok(())
 }
 
 // Puts the answer of a run that came to a fault, and what that means.
 fn push_run(
     alloc: Global,
-    text: &mut String,
+    text: &mut Page,
     number: usize,
     fault: Fault,
     checked: &Checked,
@@ -112,10 +115,11 @@ fn push_run(
         procedure,
         statement,
     } = fault;
-    write!(text, "run {number}: ")?;
-    answers::push_outcome(alloc, text, checked, &RunAnswer::Fault(fault))?;
+    text.put_count("run ", number as u64, ": ");
+    answers::push_outcome(alloc, &mut text.words, checked, &RunAnswer::Fault(fault))?;
     let missed = missed_row(alloc, kind, checked, tables);
-    push_fault(text, checked.program(), kind, procedure, statement, missed)
+    push_fault(text, checked.program(), kind, procedure, statement, missed);
+    Ok(())
 }
 
 // The table and the row that a run misses first, where that is its fault.

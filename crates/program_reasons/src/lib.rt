@@ -25,6 +25,7 @@ use std::alloc::{AllocError, Global};
 use std::fmt::Write;
 use std::fs;
 use std::rt::Runtime;
+use text_page::Page;
 
 /// The lines in plain words that belong under a report's error: those of a refused program, or of refused tables, which are read once
 /// more by the words of the program's line; why a file failed; which word of the line is wrong. There are none under other errors, and
@@ -49,9 +50,9 @@ fn mistaken(rt: &(impl Runtime + AllocGlobal), alloc: Global) -> Option<String> 
     let words = as_strs(alloc, held.as_slice()).ok()?;
     let mut usage = String::new(alloc);
     write!(usage, "{}", OptionsError::Usage).ok()?;
-    let mut text = String::new(alloc);
-    push_mistake(&mut text, usage.as_str(), words.as_slice()).ok()?;
-    Some(text)
+    let mut page = Page::new(alloc);
+    push_mistake(&mut page, usage.as_str(), words.as_slice());
+    page.whole().ok()
 }
 
 // Why a file of the program's line failed.
@@ -108,18 +109,18 @@ pub fn reasons(
     program: &[u8],
     tables: &str,
 ) -> Result<String, AllocError> {
-    let mut text = String::new(alloc);
+    let mut page = Page::new(alloc);
     match error {
         PrepareError::NoMemory => {}
-        PrepareError::Text { line } => push_bad_program(alloc, &mut text, program, *line)?,
-        PrepareError::NotToml => push_bad_toml(alloc, &mut text, tables)?,
-        PrepareError::Shape { table } => push_bad_table(alloc, &mut text, tables, table.as_str())?,
+        PrepareError::Text { line } => push_bad_program(alloc, &mut page, program, *line)?,
+        PrepareError::NotToml => push_bad_toml(alloc, &mut page, tables),
+        PrepareError::Shape { table } => push_bad_table(alloc, &mut page, tables, table.as_str())?,
         PrepareError::Check { rule, name, line } => {
-            push_holder(&mut text, name.as_str())?;
-            push_broken_line(alloc, &mut text, program, *rule, *line)?;
+            push_holder(&mut page, name.as_str());
+            push_broken_line(alloc, &mut page, program, *rule, *line)?;
         }
     }
-    Ok(text)
+    page.whole()
 }
 
 /// Prints the lines on standard error. That they can't be written changes nothing.

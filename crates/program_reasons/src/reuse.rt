@@ -8,7 +8,7 @@ use rerun_reasons::{push_reasons, reasons};
 use rerun_records::records::Records;
 use session_notes::explained::Crew;
 use std::alloc::{AllocError, Global};
-use std::fmt::Write;
+use text_page::Page;
 
 /// What the memo instances of a run by that crew come to that begins with these tables and records, and why. Want of memory is the only
 /// error.
@@ -22,9 +22,9 @@ pub fn reuse_text(
     requires in_step { IsInStep tables.now.tables records.now }
 {
     let found = reasons(alloc, checked, tables, records, crew.kits)?;
-    let mut text = String::new(alloc);
-    push_reasons(&mut text, checked, &found, crew.workers)?;
-    Ok(text)
+    let mut page = Page::new(alloc);
+    push_reasons(&mut page, checked, &found, crew.workers);
+    page.whole()
 }
 
 /// Those reasons behind the run's number, and how many instances it left unrecorded, if it did. Want of memory is the only error.
@@ -34,13 +34,14 @@ pub fn outcome_text(
     reuse: &str,
     answer: &RunAnswer,
 ) -> Result<String, AllocError> {
-    let mut text = String::new(alloc);
-    write!(text, "why {number}\n{reuse}")?;
+    let mut page = Page::new(alloc);
+    page.put_count("why ", number as u64, "\n");
+    page.put(reuse);
     let unrecorded = unrecorded_in(answer);
     if unrecorded > 0 {
-        write!(text, "  unrecorded {unrecorded}: no kit was free\n")?;
+        page.put_count("  unrecorded ", unrecorded, ": no kit was free\n");
     }
-    Ok(text)
+    page.whole()
 }
 
 // How many instances a run left unrecorded.

@@ -3,79 +3,62 @@
 use crate::reason::{Count, Ending, Explained, Reason, Reasons};
 use linked_program::checked::Checked;
 use meaning::tree::Declaration;
-use std::alloc::AllocError;
-use std::fmt::Write;
+use text_page::Page;
 
 /// Puts what each memo procedure's instances come to, and why the first are executed that are, at the end of the text, a line each.
-/// How many are left unrecorded is said where one worker runs: with more it goes by which kits are free when. Want of memory is the only
-/// error.
-pub fn push_reasons(
-    text: &mut String,
-    checked: &Checked,
-    reasons: &Reasons,
-    workers: usize,
-) -> Result<(), AllocError> {
+/// How many are left unrecorded is said where one worker runs: with more it goes by which kits are free when.
+pub fn push_reasons(text: &mut Page, checked: &Checked, reasons: &Reasons, workers: usize) {
     for (procedure, count) in reasons.counts.iter().enumerate() {
-        push_count(text, checked, procedure, *count, workers)?;
+        push_count(text, checked, procedure, *count, workers);
     }
     for explained in &reasons.first {
-        push_explained(text, checked, explained)?;
+        push_explained(text, checked, explained);
     }
-    push_rest(text, reasons)?;
+    push_rest(text, reasons);
     match reasons.ending {
-        Ending::Whole => Ok(()),
-        Ending::Fault => text.push_str("  this is as far as the fault\n"),
+        Ending::Whole => {}
+        Ending::Fault => text.put("  this is as far as the fault\n"),
     }
 }
 
 // Puts what a procedure's instances come to, if it has some.
-fn push_count(
-    text: &mut String,
-    checked: &Checked,
-    procedure: usize,
-    count: Count,
-    workers: usize,
-) -> Result<(), AllocError> {
+fn push_count(text: &mut Page, checked: &Checked, procedure: usize, count: Count, workers: usize) {
     let Count {
         executed,
         reused,
         unrecorded,
     } = count;
     if executed == 0 && reused == 0 {
-        return Ok(());
+        return;
     }
-    let name = procedure_name(checked, procedure);
-    write!(text, "  {name} executed {executed} reused {reused}")?;
+    text.put_named("  ", procedure_name(checked, procedure), " executed ");
+    text.put_count("", executed, " reused ");
+    text.put_count("", reused, "");
     if workers == 1 {
-        write!(text, " unrecorded {unrecorded}")?;
+        text.put_count(" unrecorded ", unrecorded, "");
     }
-    text.push_str("\n")
+    text.put("\n");
 }
 
 // Puts an instance that is executed, and why.
-fn push_explained(
-    text: &mut String,
-    checked: &Checked,
-    explained: &Explained,
-) -> Result<(), AllocError> {
-    let name = procedure_name(checked, explained.procedure);
-    write!(text, "  {name}(")?;
+fn push_explained(text: &mut Page, checked: &Checked, explained: &Explained) {
+    text.put_named("  ", procedure_name(checked, explained.procedure), "(");
     for (number, argument) in explained.arguments.iter().enumerate() {
-        let before = if number == 0 { "" } else { ", " };
-        write!(text, "{before}{argument}")?;
+        text.put(if number == 0 { "" } else { ", " });
+        text.put_number("", *argument, "");
     }
-    text.push_str("): ")?;
-    push_reason(text, checked, explained.reason)?;
-    text.push_str("\n")
+    text.put("): ");
+    push_reason(text, checked, explained.reason);
+    text.put("\n");
 }
 
 // Puts why an instance is executed.
-fn push_reason(text: &mut String, checked: &Checked, reason: Reason) -> Result<(), AllocError> {
+fn push_reason(text: &mut Page, checked: &Checked, reason: Reason) {
     match reason {
-        Reason::NoRecord => text.push_str("no record"),
+        Reason::NoRecord => text.put("no record"),
         Reason::Defined(procedure) => {
-            let name = procedure_name(checked, procedure);
-            write!(text, "{name} was defined anew")
+            text.put(procedure_name(checked, procedure));
+            text.put(" was defined anew");
         }
         Reason::Cell {
             table,
@@ -86,8 +69,9 @@ fn push_reason(text: &mut String, checked: &Checked, reason: Reason) -> Result<(
         } => push_cell(text, checked, table, row, column, was, found),
         Reason::Row { table, row, was } => push_row(text, checked, table, row, was),
         Reason::Limit { table, was, found } => {
-            let table = table_name(checked, table);
-            write!(text, "limit of {table} was {was} and is {found}")
+            text.put("limit of ");
+            text.put(table_name(checked, table));
+            push_change(text, was, found);
         }
         Reason::Sum {
             table,
@@ -95,57 +79,57 @@ fn push_reason(text: &mut String, checked: &Checked, reason: Reason) -> Result<(
             was,
             found,
         } => {
-            let column = column_name(checked, table, column);
-            let table = table_name(checked, table);
-            write!(text, "sum of {table}.{column} was {was} and is {found}")
+            text.put_named("sum of ", table_name(checked, table), ".");
+            text.put(column_name(checked, table, column));
+            push_change(text, was, found);
         }
-        Reason::TooDeep => text.push_str("would go too deep"),
+        Reason::TooDeep => text.put("would go too deep"),
     }
+}
+
+// Puts what a number was and what it is.
+fn push_change(text: &mut Page, was: i64, found: i64) {
+    text.put_number(" was ", was, " and is ");
+    text.put_number("", found, "");
 }
 
 // Puts a cell that is another now.
 fn push_cell(
-    text: &mut String,
+    text: &mut Page,
     checked: &Checked,
     table: usize,
     row: i64,
     column: usize,
     was: i64,
     found: i64,
-) -> Result<(), AllocError> {
-    let column = column_name(checked, table, column);
-    let table = table_name(checked, table);
-    write!(text, "{table}[{row}].{column} was {was} and is {found}")
+) {
+    text.put(table_name(checked, table));
+    text.put_number("[", row, "].");
+    text.put(column_name(checked, table, column));
+    push_change(text, was, found);
 }
 
 // Puts a row that was there or wasn't, which is otherwise now.
-fn push_row(
-    text: &mut String,
-    checked: &Checked,
-    table: usize,
-    row: i64,
-    was: bool,
-) -> Result<(), AllocError> {
-    let table = table_name(checked, table);
-    write!(text, "{table}[{row}] ")?;
-    text.push_str(if was {
-        "was there and is not"
+fn push_row(text: &mut Page, checked: &Checked, table: usize, row: i64, was: bool) {
+    text.put(table_name(checked, table));
+    text.put_number("[", row, "");
+    text.put(if was {
+        "] was there and is not"
     } else {
-        "was not there and is"
-    })
+        "] was not there and is"
+    });
 }
 
 // Puts what there is besides the instances that are named.
-fn push_rest(text: &mut String, reasons: &Reasons) -> Result<(), AllocError> {
+fn push_rest(text: &mut Page, reasons: &Reasons) {
     let executed = executed_in(&reasons.counts);
     if !reasons.has_records && executed > 0 {
-        return text.push_str("  no records yet\n");
+        return text.put("  no records yet\n");
     }
     let more = executed.saturating_sub(reasons.first.len() as u64);
-    if more == 0 {
-        return Ok(());
+    if more > 0 {
+        text.put_count("  and ", more, " more\n");
     }
-    write!(text, "  and {more} more\n")
 }
 
 // How many instances are executed.

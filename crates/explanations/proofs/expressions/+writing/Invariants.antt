@@ -5,6 +5,3 @@ decreases-push_part l = l.left
 
 abbrev pub decreases-push_bare : goal.decreases-push_bare
 decreases-push_bare l = l.left
-
-abbrev pub decreases-push_row : goal.decreases-push_row
-decreases-push_row l = l.left
