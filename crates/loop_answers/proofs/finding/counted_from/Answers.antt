@@ -1,5 +1,4 @@
 use Rattle.std.proofs.Common.{rules, ◌≡◌, ℤ, List, [], ◌∷◌, map, length, Some, sym, ap, ◌∙◌}
-use Rattle.std.proofs.lemmas.Bool.Decides.{Decides-eqb}
 use Rattle.std.proofs.lemmas.List.{length-map}
 use Rattle.linked_program.specs.Linked.{Linked}
 use Rattle.linked_program.specs.CodeView.{expression as plain}
@@ -14,7 +13,7 @@ returns-then-code-eq1-clause-known g c =
     let x = c.args.code.variable in
     let es : List Linked = map plain c.args.code.arguments.now in
     let counts : CountsAt slots x es c.in_ok-place.place = search rules in
-    let one : length es ≡ 1 = length-map c.args.code.arguments.now plain ∙ (Decides-eqb (length c.args.code.arguments.now) 1).0 c.if-code-eq1.true in
+    let one : length es ≡ 1 = length-map c.args.code.arguments.now plain ∙ c.if-code-eq1.true in
     let numbers : c.push.new.self.items ≡ c.args.number ∷ [] = search rules in
     record {
       of = c.args.number;
