@@ -175,6 +175,7 @@ impl Record {
 
     /// Whether the tables hold what was read, as the number beside the record tells. One with more readings than can be counted may keep
     /// the greatest number when they hold again, so it is compared.
+    #[inline(always)]
     pub fn agrees(&self, number: u32, tables: &Tables) -> bool
         requires counted { is_counted tables.now.tables (numbered_by number self.now) ≡ true }
         ensures agree { result ≡ reads_agree tables.now.tables self.now }
@@ -186,6 +187,7 @@ impl Record {
     }
 
     /// Whether the record is valid now for an instance at that depth, where that number stands beside it.
+    #[inline(always)]
     pub fn is_valid(&self, number: u32, depth: u32, tables: &Tables, program: &Checked) -> bool
         requires counted { is_counted tables.now.tables (numbered_by number self.now) ≡ true }
         ensures valid { result ≡ record_valid program.now.revisions tables.now.tables depth self.now }

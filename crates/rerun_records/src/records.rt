@@ -229,7 +229,8 @@ impl Records {
         requires there { slice_get (map as_made self.now) place ≡ Some record.now }
         ensures valid { result ≡ record_valid program.now.revisions tables.now.tables depth record.now }
     {
-        record.is_valid(self.numbers[place], depth, tables, program)
+        let number = self.numbers[place];
+        record.is_valid(number, depth, tables, program)
     }
 
     /// Instances that records answer: that of the procedure of that number with these arguments, and those behind it in that

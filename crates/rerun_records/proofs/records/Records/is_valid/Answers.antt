@@ -1,7 +1,5 @@
-use Rattle.std.proofs.Common.{◌≡◌, ◌<◌, ℕ, sym, ◌∙◌, subst}
-use Rattle.std.proofs.lemmas.Option.{get_or_from_slice_get, slice_get_within}
-use Rattle.record_theory.specs.Numbers.{numbered_by}
-use Rattle.record_theory.proofs.InStep.{IsNumber, is_number}
+use Rattle.std.proofs.Common.{◌<◌, ℕ, sym, subst}
+use Rattle.std.proofs.lemmas.Option.{slice_get_within}
 use Rattle.rerun_records.proofs.Finding.{number_there, number_asked}
 use Rattle.rerun_records.proofs.records.Records.is_valid.Goals as goal
 
@@ -12,6 +10,7 @@ index-number-requires c =
     subst (λ (n : ℕ). c.args.place < n) (sym c.self.inside.numbers.ok.0) (slice_get_within numbers c.args.place has.number has.there)
 
 pub is_valid-requires : goal.is_valid-requires
-is_valid-requires c =
-    number_asked c.args.tables.now.tables c.self.inside.numbers.items c.self.inside.list.items c.args.self.now c.args.place c.index-number.result.now c.args.record.now c.self.view_is
-    c.self.invariant.0.places c.requires.in_step c.requires.there c.index-number.ensures
+is_valid-requires c = record {
+  counted = number_asked c.args.tables.now.tables c.self.inside.numbers.items c.self.inside.list.items c.args.self.now c.args.place c.index-number.result.now c.args.record.now c.self.view_is
+      c.self.invariant.0.places c.requires.in_step c.requires.there c.index-number.ensures;
+}
