@@ -1,4 +1,4 @@
--- Readings that are found to be the same are equal, and one that lies in no span is none of those that the spans hold.
+-- Readings that are found to be the same are equal.
 use Rattle.std.proofs.Common.{◌≡◌, ℕ, ◌+◌, ℤ, Bool, true, false, true≢false, List, [], ◌∷◌, ◌++◌, refl, sym, ◌∙◌, ap}
 use Rattle.std.specs.Prelude.{◌&&◌, ◌||◌, nat_eq}
 use Rattle.std.specs.Ordering.{int_eq}
