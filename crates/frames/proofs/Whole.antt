@@ -13,7 +13,7 @@ use Rattle.positions.specs.Tallies.{PlainTally}
 use Rattle.positions.specs.Strands.{PlainStrand, PlainTask, IsLayered, IsLayeredAt}
 use Rattle.positions.specs.Advance.{advanced}
 use Rattle.positions.specs.Moves.{resumed, resumed_by, returned_at, joined_at, joined_after, joined_ended, joined, lowest_alone}
-use Rattle.positions.proofs.Layered.{layers_kept}
+use Rattle.position_theory.proofs.Layered.{layers_kept}
 use Rattle.strand_moves.specs.Joins.{IsDone, HasFault, with_worths}
 use Rattle.small_steps.specs.Steps.{IsWhole, IsValued, revalued, revalued_first}
 use Rattle.small_steps.proofs.Keeping.{kinds_kept}

@@ -2,7 +2,6 @@
 #![tactic(auto)]
 
 pub mod answer;
-pub mod laws;
 pub mod phase;
 pub mod start;
 pub mod work;

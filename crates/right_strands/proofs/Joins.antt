@@ -35,8 +35,8 @@ use Rattle.positions.specs.Advance.{pause_of, pause_at}
 use Rattle.positions.specs.Moves.{settled_by, joined, joined_at, joined_after, joined_ended, joined_broken}
 use Rattle.positions.specs.Simulation.{place_of, IsNotAtSpawn}
 use Rattle.positions.specs.Stands.{AreNotes, AreParents, StandsAt, StandsFor, IsStart, IsAt, named_fault}
-use Rattle.positions.proofs.Joins.{joined_is}
-use Rattle.positions.proofs.Starts.{entry_is}
+use Rattle.position_theory.proofs.Joins.{joined_is}
+use Rattle.position_theory.proofs.Starts.{entry_is}
 use Rattle.strand_moves.specs.Joins.{with_worths, IsDone}
 use Rattle.right_strands.specs.Remembering.{Remembers, recalling}
 use Rattle.right_strands.specs.Rightness.{sight, lookup, IsSound, IsRightBy, IsHeld}

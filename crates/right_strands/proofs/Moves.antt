@@ -23,7 +23,7 @@ use Rattle.positions.specs.Strands.{PlainStrand, PlainTask, shorter}
 use Rattle.positions.specs.Moves as moves
 use Rattle.positions.specs.Stands.{AreParents, StandsAt, IsStart, IsAt}
 use Rattle.positions.specs.Simulation.{IsInlined, IsDetached, IsResumed, IsStolen}
-use Rattle.positions.proofs.Moves.{inlined_is}
+use Rattle.position_theory.proofs.Moves.{inlined_is}
 use Rattle.right_strands.specs.Picked.{IsSet}
 use Rattle.right_strands.specs.Remembering.{recalling}
 use Rattle.right_strands.specs.Rightness.{Pushed, FitsHere, IsSound, IsRightBy, IsRightTaskBy, IsRightTask, IsHeld, WasDetached}

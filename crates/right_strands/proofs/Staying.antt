@@ -11,7 +11,7 @@ use Rattle.positions.specs.Setting.{Setting}
 use Rattle.positions.specs.Strands.{PlainStrand, PlainTask}
 use Rattle.positions.specs.Moves as moves
 use Rattle.positions.specs.Simulation.{IsFirst, IsInlined, IsDetached, IsResumed}
-use Rattle.positions.proofs.Moves.{inlined_is}
+use Rattle.position_theory.proofs.Moves.{inlined_is}
 use Rattle.right_strands.specs.Rightness.{IsSound, IsRightBy}
 use Rattle.right_strands.specs.Pairs.{IsPair}
 use Rattle.right_strands.specs.Staying.{HasRest, LeavesAll, MayMeet, StrandsStayRight}

@@ -21,7 +21,7 @@ use Rattle.positions.specs.Activations.{PlainActivation}
 use Rattle.positions.specs.Strands.{PlainStrand, PlainTask, shorter, IsLayeredAt, IsLayered}
 use Rattle.positions.specs.Moves.{returned_at, returned_of, resumed_by}
 use Rattle.positions.specs.Stands.{AreParents, StandsAt, StandsForTask}
-use Rattle.positions.proofs.Moves.{resumed_is, stolen_is}
+use Rattle.position_theory.proofs.Moves.{resumed_is, stolen_is}
 use Rattle.stepped_runs.specs.Pieces.{PlainPiece, place_of, is_held_by, popped_of, popped_by, popped, oldest, robbed, stolen_of, stolen_from}
 use Rattle.stepped_runs.specs.Stands.{StandForTasks, StandsForPiece}
 use Rattle.stepped_runs.proofs.Agreeing.{Each, held_any, piece_place, Agrees}

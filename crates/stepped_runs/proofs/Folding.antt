@@ -24,7 +24,7 @@ use Rattle.positions.specs.Layers.{multiplied}
 use Rattle.positions.specs.Moves.{settled_by, joined, joined_at, joined_after, joined_ended}
 use Rattle.positions.specs.Stands.{StandsAt}
 use Rattle.positions.specs.Simulation.{IsNotAtSpawn}
-use Rattle.positions.proofs.Joins.{joined_is}
+use Rattle.position_theory.proofs.Joins.{joined_is}
 use Rattle.numbered_runs.specs.declared.refusal.Refusal.TheVariants.{NotThere}
 use Rattle.stepped_runs.specs.Pieces.{PlainPiece, place_of, may_join_at, may_fold, folded}
 use Rattle.stepped_runs.specs.Runs.{folded_if, folded_at}

@@ -24,9 +24,9 @@ use Rattle.positions.specs.Advance.{next_statement, sync_pause, is_sync, bottom_
 use Rattle.positions.specs.Moves.{lowest_alone}
 use Rattle.positions.specs.Stands.{AreParents, StandsAt, StandsFor, named_fault}
 use Rattle.positions.specs.Simulation.{named_pause, IsTaken, IsPauseBy, small_step}
-use Rattle.positions.proofs.Working.{working_is}
-use Rattle.positions.proofs.Pauses.{pause_is}
-use Rattle.positions.proofs.Moves.{alone_is}
+use Rattle.position_theory.proofs.Working.{working_is}
+use Rattle.position_theory.proofs.Pauses.{pause_is}
+use Rattle.position_theory.proofs.Moves.{alone_is}
 use Rattle.stepped_runs.specs.Pieces.{PlainPiece, laid, stalled_at}
 use Rattle.stepped_runs.specs.Stands.{IsBelowMain, IsLaidAs, StandForTasks, StandsForPiece}
 use Rattle.stepped_runs.proofs.Agreeing.{piece_place, Agrees}

@@ -18,12 +18,12 @@ use Rattle.positions.specs.Advance as positions
 use Rattle.positions.specs.Advance.{pause_of, kits_then}
 use Rattle.positions.specs.Stands.{StandsAt, StandsFor}
 use Rattle.positions.specs.Simulation.{named_pause, IsTaken, IsPauseBy, small_step, kits_by}
-use Rattle.positions.proofs.Stepping.{small_step_is}
-use Rattle.positions.proofs.Kits.{kits_follow}
-use Rattle.positions.proofs.Layered.{layers_kept}
-use Rattle.positions.proofs.Working.{working_is}
-use Rattle.positions.proofs.Pauses.{pause_is}
-use Rattle.positions.proofs.Moves.{inlined_is, detached_is}
+use Rattle.position_theory.proofs.Stepping.{small_step_is}
+use Rattle.position_theory.proofs.Kits.{kits_follow}
+use Rattle.position_theory.proofs.Layered.{layers_kept}
+use Rattle.position_theory.proofs.Working.{working_is}
+use Rattle.position_theory.proofs.Pauses.{pause_is}
+use Rattle.position_theory.proofs.Moves.{inlined_is, detached_is}
 use Rattle.numbered_runs.specs.declared.refusal.Refusal.TheVariants.{NotThere}
 use Rattle.stepped_runs.specs.Pieces.{PlainPiece, is_held_by, worked_to, pushed_over, pushed_at, pushed, inlined_at, inlined, worked_at, worked}
 use Rattle.stepped_runs.specs.Simulation.{IsPrepared}

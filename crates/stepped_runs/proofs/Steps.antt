@@ -16,7 +16,7 @@ use Rattle.run_theory.proofs.FlagsTold.{runs_by_length}
 use Rattle.linked_program.specs.Linked.{main_number}
 use Rattle.linked_program.specs.Initials.{PlainInitial, AreUpdatesBy}
 use Rattle.positions.specs.Setting.{Setting, IsLinked}
-use Rattle.positions.proofs.Moves.{first_is}
+use Rattle.position_theory.proofs.Moves.{first_is}
 use Rattle.numbered_runs.specs.declared.refusal.Refusal.{Refusal}
 use Rattle.numbered_runs.specs.declared.refusal.Refusal.TheVariants.{Nothing, NotThere}
 use Rattle.stepped_runs.specs.Pieces.{PlainPiece, pushed, inlined, popped, worked, stalled, stolen_from}

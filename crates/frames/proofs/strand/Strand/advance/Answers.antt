@@ -6,10 +6,10 @@ use Rattle.positions.specs.Layers.{PlainLayer}
 use Rattle.positions.specs.Strands.{PlainStrand}
 use Rattle.positions.specs.Advance.{advanced, pause_of}
 use Rattle.positions.specs.Simulation.{IsSmallStep, KitsFollow, IsPause}
-use Rattle.positions.proofs.Stepping.{small_step_is}
-use Rattle.positions.proofs.Kits.{kits_follow}
-use Rattle.positions.proofs.Pauses.{pause_is}
-use Rattle.positions.proofs.Working.{working_is}
+use Rattle.position_theory.proofs.Stepping.{small_step_is}
+use Rattle.position_theory.proofs.Kits.{kits_follow}
+use Rattle.position_theory.proofs.Pauses.{pause_is}
+use Rattle.position_theory.proofs.Working.{working_is}
 use Rattle.activations.specs.Given.{setting_over}
 use Rattle.small_steps.specs.Steps.{GivesNone, HoldsBy, IsStepOf}
 use Rattle.answered_loops.proofs.Memories.{advanced_same}

@@ -2,7 +2,7 @@ use Rattle.std.proofs.Common.{sym, subst, ◌∙◌, ap}
 use Rattle.positions.specs.Setting.{setting_with}
 use Rattle.positions.specs.Moves.{at_update}
 use Rattle.positions.specs.Simulation.{IsUpdateNext}
-use Rattle.positions.proofs.Pauses.{update_next_is}
+use Rattle.position_theory.proofs.Pauses.{update_next_is}
 use Rattle.frames.proofs.strand.Strand.at_update.Goals as goal
 
 pub returns-clause-next : goal.returns-clause-next

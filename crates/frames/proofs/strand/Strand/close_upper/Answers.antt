@@ -2,7 +2,7 @@ use Rattle.std.proofs.Common.{sym, ap, subst, ◌∙◌}
 use Rattle.positions.specs.Strands.{PlainStrand}
 use Rattle.positions.specs.Moves.{lowest_alone}
 use Rattle.positions.specs.Simulation.{IsAlone}
-use Rattle.positions.proofs.Moves.{alone_is}
+use Rattle.position_theory.proofs.Moves.{alone_is}
 use Rattle.frames.proofs.strand.Strand.close_upper.Goals as goal
 
 pub returns-clause-definition : goal.returns-clause-definition

@@ -2,7 +2,7 @@ use Rattle.std.proofs.Common.{◌≡◌, ◌∷◌, sym, subst, ◌∙◌, ap}
 use Rattle.positions.specs.Strands.{PlainStrand}
 use Rattle.positions.specs.Moves.{detached}
 use Rattle.positions.specs.Simulation.{IsDetached}
-use Rattle.positions.proofs.Moves.{detached_is}
+use Rattle.position_theory.proofs.Moves.{detached_is}
 use Rattle.frames.proofs.strand.Strand.detach.Goals as goal
 
 pub returns-clause-definition : goal.returns-clause-definition

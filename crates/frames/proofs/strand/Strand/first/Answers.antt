@@ -3,7 +3,7 @@ use Rattle.positions.specs.Setting.{setting_with}
 use Rattle.positions.specs.Strands.{PlainStrand}
 use Rattle.positions.specs.Moves.{first_strand}
 use Rattle.positions.specs.Simulation.{IsFirst}
-use Rattle.positions.proofs.Moves.{first_is}
+use Rattle.position_theory.proofs.Moves.{first_is}
 use Rattle.frames.proofs.strand.Strand.first.Goals as goal
 
 pub returns-in-Ok-clause-beginning : goal.returns-in-Ok-clause-beginning

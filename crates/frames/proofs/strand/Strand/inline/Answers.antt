@@ -2,7 +2,7 @@ use Rattle.std.proofs.Common.{sym, subst, ◌∙◌, ap}
 use Rattle.positions.specs.Strands.{PlainStrand}
 use Rattle.positions.specs.Moves.{inlined}
 use Rattle.positions.specs.Simulation.{IsInlined}
-use Rattle.positions.proofs.Moves.{inlined_is}
+use Rattle.position_theory.proofs.Moves.{inlined_is}
 use Rattle.frames.proofs.strand.Strand.inline.Goals as goal
 
 pub returns-clause-definition : goal.returns-clause-definition

@@ -2,7 +2,7 @@ use Rattle.std.proofs.Common.{rules, ◌≡◌, sym, subst, OnOk}
 use Rattle.positions.specs.Strands.{PlainStrand}
 use Rattle.positions.specs.Moves.{joined}
 use Rattle.positions.specs.Simulation.{IsJoined}
-use Rattle.positions.proofs.Joins.{joined_is}
+use Rattle.position_theory.proofs.Joins.{joined_is}
 use Rattle.strand_moves.specs.Joins.{IsDone, with_worths}
 use Rattle.frames.proofs.Whole.{worths_whole, joined_or}
 use Rattle.strand_moves.proofs.Results.{on_ok}

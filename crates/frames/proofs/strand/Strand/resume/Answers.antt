@@ -2,7 +2,7 @@ use Rattle.std.proofs.Common.{sym, subst, ◌∙◌, ap}
 use Rattle.positions.specs.Strands.{PlainStrand}
 use Rattle.positions.specs.Moves.{resumed}
 use Rattle.positions.specs.Simulation.{IsResumed}
-use Rattle.positions.proofs.Moves.{resumed_is}
+use Rattle.position_theory.proofs.Moves.{resumed_is}
 use Rattle.frames.proofs.strand.Strand.resume.Goals as goal
 
 pub returns-clause-definition : goal.returns-clause-definition

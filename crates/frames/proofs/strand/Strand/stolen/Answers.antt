@@ -3,7 +3,7 @@ use Rattle.positions.specs.Setting.{setting_with}
 use Rattle.positions.specs.Strands.{PlainStrand}
 use Rattle.positions.specs.Moves.{stolen}
 use Rattle.positions.specs.Simulation.{IsStolen}
-use Rattle.positions.proofs.Moves.{stolen_is}
+use Rattle.position_theory.proofs.Moves.{stolen_is}
 use Rattle.frames.proofs.strand.Strand.stolen.Goals as goal
 
 pub returns-in-Ok-clause-definition : goal.returns-in-Ok-clause-definition

@@ -27,12 +27,12 @@ use Rattle.positions.specs.Strands.{PlainStrand}
 use Rattle.positions.specs.Tallies.{PlainTally}
 use Rattle.positions.specs.Advance.{begun, reused, passed, opened, opened_of, record_for, recalled, started_as, started_by, started}
 use Rattle.positions.specs.Stands.{AreNotes, IsOpened, IsTally, IsStart, AreBodies, acts_at, IsTodo, IsTodoAt, AreParents, IsNewInstance, HasArguments, IsRunning, frame_of}
-use Rattle.positions.proofs.Evaluations.{strand_at, Comes}
-use Rattle.positions.proofs.Layering.{top_none, blank_is, notes_entered, top_noted}
-use Rattle.positions.proofs.Places.{recorded_somewhere, memo_at, body_at, found_at}
-use Rattle.positions.proofs.Products.{absorbed}
-use Rattle.positions.proofs.Recorded.{answered}
-use Rattle.positions.proofs.Starts.{start_moved}
+use Rattle.position_theory.proofs.Evaluations.{strand_at, Comes}
+use Rattle.position_theory.proofs.Layering.{top_none, blank_is, notes_entered, top_noted}
+use Rattle.position_theory.proofs.Places.{recorded_somewhere, memo_at, body_at, found_at}
+use Rattle.position_theory.proofs.Products.{absorbed}
+use Rattle.position_theory.proofs.Recorded.{answered}
+use Rattle.position_theory.proofs.Starts.{start_moved}
 
 -- the record of a name, its arguments and a depth, where it is valid
 abbrev pub lookup_of : Setting → Lookup

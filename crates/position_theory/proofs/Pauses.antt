@@ -27,9 +27,9 @@ use Rattle.positions.specs.Advance.{statement_by, next_statement, sync_pause, is
 use Rattle.positions.specs.Moves.{is_update, is_update_there, update_at, at_update}
 use Rattle.positions.specs.Stands.{IsStart, acts_at, IsTodoAt, AreParents, StandsAt}
 use Rattle.positions.specs.Simulation.{named_pause, updates_body, updates, IsPauseBy, IsPause, IsUpdateNext}
-use Rattle.positions.proofs.Beginning.{lookup_of}
-use Rattle.positions.proofs.Places.{AtPlace, at_place}
-use Rattle.positions.proofs.Starts.{start_moved, entry_is}
+use Rattle.position_theory.proofs.Beginning.{lookup_of}
+use Rattle.position_theory.proofs.Places.{AtPlace, at_place}
+use Rattle.position_theory.proofs.Starts.{start_moved, entry_is}
 
 not_passed : (b : Bool) (st : Step) → b ≡ true → unless b st ≡ paused_step at_sync
 not_passed b st e = ap (λ c. unless c st) e

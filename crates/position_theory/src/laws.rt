@@ -10,7 +10,7 @@ ghost use Rattle.positions.specs.Moves.{inlined, detached, attached, resumed, fi
 ghost use Rattle.positions.specs.Simulation.{IsSmallStep, KitsFollow, KeepsLayers, IsPause, IsStepTaken, IsFirst, IsInlined, IsDetached};
 ghost use Rattle.positions.specs.Simulation.{IsAttached, IsResumed, IsStolen, IsJoined, IsAlone, IsUpdateNext};
 
-use crate::phase::Paused;
+use positions::phase::Paused;
 
 /// A small step by numbers is that of the definitions, where the codes and kinds are those of the program, the tables have
 /// the names that it was linked by, the records stand for those kept by name, and those made by then hold now; and it takes and

@@ -22,7 +22,7 @@ use Rattle.record_theory.specs.Named.{SameMembers}
 use Rattle.positions.specs.Code.{may_record}
 use Rattle.positions.specs.Layers.{PlainLayer, blank, flagged, kept_behind, noting, entering, updated_by, updating, begun_by, begun, lowest}
 use Rattle.positions.specs.Stands.{IsNotes, AreNotes}
-use Rattle.positions.proofs.Members.{members_same, members_then, members_append, members_by_parts}
+use Rattle.position_theory.proofs.Members.{members_same, members_then, members_append, members_by_parts}
 
 -- ---- what is noted one behind the other
 

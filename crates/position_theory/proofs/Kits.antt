@@ -19,11 +19,11 @@ use Rattle.positions.specs.Advance as plain
 use Rattle.positions.specs.Advance.{kits_then}
 use Rattle.positions.specs.Stands.{IsStart, AreNotes, IsTally, StandsAt, frame_of}
 use Rattle.positions.specs.Simulation.{kits_by, KitsFollow}
-use Rattle.positions.proofs.Beginning.{lookup_of}
-use Rattle.positions.proofs.Claims.{IsClaim, enter_has, todo_has}
-use Rattle.positions.proofs.Recorded.{own_is}
-use Rattle.positions.proofs.Starts.{start_moved, entry_is}
-use Rattle.positions.proofs.Stepping.{rebuilt, step_in, HoldsAt, phase_is}
+use Rattle.position_theory.proofs.Beginning.{lookup_of}
+use Rattle.position_theory.proofs.Claims.{IsClaim, enter_has, todo_has}
+use Rattle.position_theory.proofs.Recorded.{own_is}
+use Rattle.position_theory.proofs.Starts.{start_moved, entry_is}
+use Rattle.position_theory.proofs.Stepping.{rebuilt, step_in, HoldsAt, phase_is}
 
 -- ---- steps that close no layer
 

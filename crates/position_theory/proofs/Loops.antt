@@ -33,11 +33,11 @@ use Rattle.positions.specs.Strands.{PlainStrand}
 use Rattle.positions.specs.Tallies.{PlainTally}
 use Rattle.positions.specs.Advance.{with_top, giving, split, second_half, halved, turn_by, turned, left_of, right_of, rest_of}
 use Rattle.positions.specs.Stands.{AreNotes, IsTally, IsStart, IsJob, AreParents}
-use Rattle.positions.proofs.Beginning.{lookup_of}
-use Rattle.positions.proofs.Entering.{frame_with, spawned_is, half_is, called_is}
-use Rattle.positions.proofs.Evaluations.{strand_at, Comes}
-use Rattle.positions.proofs.Layering.{top_none}
-use Rattle.positions.proofs.Starts.{start_moved}
+use Rattle.position_theory.proofs.Beginning.{lookup_of}
+use Rattle.position_theory.proofs.Entering.{frame_with, spawned_is, half_is, called_is}
+use Rattle.position_theory.proofs.Evaluations.{strand_at, Comes}
+use Rattle.position_theory.proofs.Layering.{top_none}
+use Rattle.position_theory.proofs.Starts.{start_moved}
 
 module _ (setting : Setting) (kit : Bool) (linked : IsLinked (by_own_names setting)) (records : HasItsRecords (by_own_names setting))
     (m : NamedStart) (under : List Parent) (st : Start) (lower : List PlainLayer) (path : Place) (a : PlainActivation) (below : List PlainActivation)

@@ -20,9 +20,9 @@ use Rattle.positions.specs.Setting.{Setting, IsLinked}
 use Rattle.positions.specs.Layers.{PlainLayer, either, flagged, multiplied, kept_reads, covered, absorbing, closed_onto, below_top}
 use Rattle.positions.specs.Values.{once}
 use Rattle.positions.specs.Stands.{IsNotes, AreNotes}
-use Rattle.positions.proofs.Members.{members_same, members_then, members_append, members_by_parts, members_mapped, map_map}
-use Rattle.positions.proofs.Once.{once_is}
-use Rattle.positions.proofs.Entries.{flagged_more, length_flagged, flagged_same}
+use Rattle.position_theory.proofs.Members.{members_same, members_then, members_append, members_by_parts, members_mapped, map_map}
+use Rattle.position_theory.proofs.Once.{once_is}
+use Rattle.position_theory.proofs.Entries.{flagged_more, length_flagged, flagged_same}
 
 -- ---- flags of both
 

@@ -16,7 +16,7 @@ use Rattle.record_theory.specs.Named.{SameMembers, IsInOrder, number_of, numbere
 use Rattle.trail_theory.specs.Order.{In}
 use Rattle.positions.specs.Layers.{flagged}
 use Rattle.positions.specs.Tallies.{entries_from}
-use Rattle.positions.proofs.Members.{there, back, same_members, in_map, made_from, map_map}
+use Rattle.position_theory.proofs.Members.{there, back, same_members, in_map, made_from, map_map}
 use Rattle.record_theory.proofs.Same.{first_is, second_is}
 
 -- ---- flags

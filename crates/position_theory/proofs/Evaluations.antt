@@ -20,8 +20,8 @@ use Rattle.positions.specs.Strands.{PlainStrand}
 use Rattle.positions.specs.Advance.{noted, faulted, answered, evaluated}
 use Rattle.positions.specs.Stands.{procedure_at, AreNotes, IsTally, IsStart, StandsFor}
 use Rattle.positions.specs.Simulation.{IsTaken}
-use Rattle.positions.proofs.Layering.{top_none, top_append, top_read}
-use Rattle.positions.proofs.Starts.{start_moved}
+use Rattle.position_theory.proofs.Layering.{top_none, top_append, top_read}
+use Rattle.position_theory.proofs.Starts.{start_moved}
 
 -- a strand of the definitions by its parts
 abbrev pub strand_at : NamedStart → List Notes → Frame → NamedPhase → List Parent → LayeredStrand

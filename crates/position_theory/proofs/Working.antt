@@ -27,10 +27,10 @@ use Rattle.positions.specs.Strands.{PlainStrand, entry_by}
 use Rattle.positions.specs.Advance.{statement_by, next_statement, sync_pause, is_sync_as, is_sync, bottom_pause, pause_at, pause_of}
 use Rattle.positions.specs.Stands.{IsStart, acts_at, IsTodoAt, AreParents, StandsAt}
 use Rattle.positions.specs.Simulation.{IsTaken, IsStepTaken}
-use Rattle.positions.proofs.Beginning.{lookup_of}
-use Rattle.positions.proofs.Claims.{enter_has, todo_has, is_taken}
-use Rattle.positions.proofs.Places.{AtPlace, at_place}
-use Rattle.positions.proofs.Starts.{start_moved, entry_is}
+use Rattle.position_theory.proofs.Beginning.{lookup_of}
+use Rattle.position_theory.proofs.Claims.{enter_has, todo_has, is_taken}
+use Rattle.position_theory.proofs.Places.{AtPlace, at_place}
+use Rattle.position_theory.proofs.Starts.{start_moved, entry_is}
 
 passed_taken : (b : Bool) (s : Step) → b ≡ false → IsTaken s → IsTaken (unless b s)
 passed_taken true s e h = absurd cc

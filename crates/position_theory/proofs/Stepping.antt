@@ -39,15 +39,15 @@ use Rattle.positions.specs.Advance as plain
 use Rattle.positions.specs.Advance.{with_top, in_phase, giving, gone_by, gone, worked, started, started_by}
 use Rattle.positions.specs.Stands.{IsStart, AreNotes, IsTally, AreBodies, acts_at, frame_of, slots_by, IsUnbound, IsTodoAt, IsTodo, IsParent, AreParents, IsNew, StandsAt}
 use Rattle.positions.specs.Simulation.{HoldNow, IsSmallStep}
-use Rattle.positions.proofs.Beginning.{lookup_of, top_begins, instance_begins}
-use Rattle.positions.proofs.Evaluations.{strand_at, Comes}
-use Rattle.positions.proofs.Layering.{top_none}
-use Rattle.positions.proofs.Loops.{halved_is, second_is, turned_is}
-use Rattle.positions.proofs.Places.{AtPlace, at_place}
-use Rattle.positions.proofs.Products.{closed_layers}
-use Rattle.positions.proofs.Recorded.{closed_tally, own_is}
-use Rattle.positions.proofs.Starts.{start_moved, entry_is}
-use Rattle.positions.proofs.Statements.{performed_is}
+use Rattle.position_theory.proofs.Beginning.{lookup_of, top_begins, instance_begins}
+use Rattle.position_theory.proofs.Evaluations.{strand_at, Comes}
+use Rattle.position_theory.proofs.Layering.{top_none}
+use Rattle.position_theory.proofs.Loops.{halved_is, second_is, turned_is}
+use Rattle.position_theory.proofs.Places.{AtPlace, at_place}
+use Rattle.position_theory.proofs.Products.{closed_layers}
+use Rattle.position_theory.proofs.Recorded.{closed_tally, own_is}
+use Rattle.position_theory.proofs.Starts.{start_moved, entry_is}
+use Rattle.position_theory.proofs.Statements.{performed_is}
 
 -- ---- what a running instance does
 

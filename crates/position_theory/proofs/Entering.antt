@@ -38,12 +38,12 @@ use Rattle.positions.specs.Tallies.{PlainTally}
 use Rattle.positions.specs.Advance.{faulted, evaluated, pushed, entered, nested, nested_memo, called_as, called}
 use Rattle.positions.specs.Stands.{procedure_at, AreNotes, IsTally, IsStart, slots_by, IsTodo, IsUnbound, IsParent, AreParents, IsNew, IsNewInstance, frame_at, frame_of}
 use Rattle.positions.specs.Simulation.{IsTaken}
-use Rattle.positions.proofs.Beginning.{lookup_of, top_begins, instance_begins}
-use Rattle.positions.proofs.Claims.{way_step, way_has, is_taken}
-use Rattle.positions.proofs.Evaluations.{strand_at, Comes, evaluated_is, faulted_is, mapped_is}
-use Rattle.positions.proofs.Layering.{top_none}
-use Rattle.positions.proofs.Places.{slots_at, found_at}
-use Rattle.positions.proofs.Starts.{shorter_child, start_in_child}
+use Rattle.position_theory.proofs.Beginning.{lookup_of, top_begins, instance_begins}
+use Rattle.position_theory.proofs.Claims.{way_step, way_has, is_taken}
+use Rattle.position_theory.proofs.Evaluations.{strand_at, Comes, evaluated_is, faulted_is, mapped_is}
+use Rattle.position_theory.proofs.Layering.{top_none}
+use Rattle.position_theory.proofs.Places.{slots_at, found_at}
+use Rattle.position_theory.proofs.Starts.{shorter_child, start_in_child}
 
 -- ---- the one that waits under a child
 

@@ -49,12 +49,12 @@ use Rattle.positions.specs.Advance as plain
 use Rattle.positions.specs.Advance.{evaluated, called, moved_on, binding, choosing, looping, giving, combining, if_named, performed}
 use Rattle.positions.specs.Stands.{procedure_at, AreNotes, IsTally, IsStart, AreBodies, acts_at, AreParents, StandsFor}
 use Rattle.positions.specs.Simulation.{IsTaken}
-use Rattle.positions.proofs.Beginning.{lookup_of}
-use Rattle.positions.proofs.Claims.{way_step}
-use Rattle.positions.proofs.Entering.{frame_with, half_is, called_is}
-use Rattle.positions.proofs.Evaluations.{strand_at, Comes, evaluated_is, faulted_is, two_parts}
-use Rattle.positions.proofs.Layering.{top_none, notes_updated, top_noted, bottom_is}
-use Rattle.positions.proofs.Starts.{start_moved, entry_is}
+use Rattle.position_theory.proofs.Beginning.{lookup_of}
+use Rattle.position_theory.proofs.Claims.{way_step}
+use Rattle.position_theory.proofs.Entering.{frame_with, half_is, called_is}
+use Rattle.position_theory.proofs.Evaluations.{strand_at, Comes, evaluated_is, faulted_is, two_parts}
+use Rattle.position_theory.proofs.Layering.{top_none, notes_updated, top_noted, bottom_is}
+use Rattle.position_theory.proofs.Starts.{start_moved, entry_is}
 
 all_halvings : halvings ≡ most_halvings
 unfolding halvings

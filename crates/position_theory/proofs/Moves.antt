@@ -30,10 +30,10 @@ use Rattle.positions.specs.Strands.{PlainStrand, PlainTask, shorter}
 use Rattle.positions.specs.Moves.{inlined, detached, attached, returned_at, resumed_by, resumed, first_strand, stolen, lowest_alone}
 use Rattle.positions.specs.Stands.{IsStart, AreNotes, IsTally, procedure_at, frame_of, frame_at, slots_by, IsTodoAt, IsTodo, IsParent, AreParents, IsNewInstance, IsNew, IsEntering, IsSpawning, StandsAt, StandsFor}
 use Rattle.positions.specs.Simulation.{IsFirst, IsInlined, IsDetached, IsAttached, IsResumed, IsStolen, IsAlone}
-use Rattle.positions.proofs.Places.{slots_at, found_at}
-use Rattle.positions.proofs.Layering.{blank_is, begun_is}
-use Rattle.positions.proofs.Starts.{start_moved}
-use Rattle.positions.proofs.Stepping.{top_leaves, todo_bound, bound_frame, with_value_is, start_below}
+use Rattle.position_theory.proofs.Places.{slots_at, found_at}
+use Rattle.position_theory.proofs.Layering.{blank_is, begun_is}
+use Rattle.position_theory.proofs.Starts.{start_moved}
+use Rattle.position_theory.proofs.Stepping.{top_leaves, todo_bound, bound_frame, with_value_is, start_below}
 
 module _ (setting : Setting) where
   -- ---- at a spawn

@@ -23,9 +23,9 @@ use Rattle.positions.specs.Advance.{record_for}
 use Rattle.positions.specs.Stands.{IsNotes, IsOpened, AreOpened, IsTally}
 use Rattle.positions.specs.Simulation.{HoldNow}
 use Rattle.record_theory.proofs.Same.{second_is}
-use Rattle.positions.proofs.Once.{touched_is, touched_named}
-use Rattle.positions.proofs.Products.{kept_reads_are}
-use Rattle.positions.proofs.Entries.{entries_are}
+use Rattle.position_theory.proofs.Once.{touched_is, touched_named}
+use Rattle.position_theory.proofs.Products.{kept_reads_are}
+use Rattle.position_theory.proofs.Entries.{entries_are}
 
 every_last : {A : Type 0} (P : A → Type 0) (xs : List A) (x : A) → Every P (xs ++ x ∷ []) → P x
 every_last P [] x h = h.0

@@ -16,7 +16,7 @@ use Rattle.positions.specs.Tallies.{touched_from}
 use Rattle.record_theory.specs.Same.{same_note}
 use Rattle.record_theory.proofs.Same.{first_is, second_is, number_is, integer_is, note_is}
 use Rattle.positions.specs.Values.{same_pair, same_best, same_worth, put_note, once_behind, once}
-use Rattle.positions.proofs.Members.{same_members}
+use Rattle.position_theory.proofs.Members.{same_members}
 
 -- ---- tests that hold
 

@@ -30,9 +30,9 @@ use Rattle.positions.specs.Strands.{PlainStrand, shorter}
 use Rattle.positions.specs.Moves.{settled_slot, settled_slots, settled, settled_below, settled_at, settled_by, joined_ended, joined_broken, joined_after, joined_at, joined}
 use Rattle.positions.specs.Stands.{IsWithin, IsStart, AreNotes, IsTally, named_fault, frame_of, slots_by, IsTodoAt, IsTodo, IsParent, AreParents, IsNewInstance, IsNew, StandsAt, StandsFor}
 use Rattle.positions.specs.Simulation.{IsNotAtSpawn, IsJoined}
-use Rattle.positions.proofs.Recorded.{records_append}
-use Rattle.positions.proofs.Products.{notes_multiplied}
-use Rattle.positions.proofs.Starts.{start_moved}
+use Rattle.position_theory.proofs.Recorded.{records_append}
+use Rattle.position_theory.proofs.Products.{notes_multiplied}
+use Rattle.position_theory.proofs.Starts.{start_moved}
 
 -- ---- settled slots
 

@@ -1,5 +1,0 @@
-use Rattle.positions.proofs.Moves.{first_is, stolen_is}
-use Rattle.positions.proofs.laws.beginnings_are_the_definitions.Goals as goal
-
-pub returns : goal.returns
-returns c = record { first = first_is; stolen = stolen_is }

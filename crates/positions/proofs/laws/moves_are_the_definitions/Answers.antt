@@ -1,6 +1,0 @@
-use Rattle.positions.proofs.Joins.{joined_is}
-use Rattle.positions.proofs.Moves.{inlined_is, detached_is, attached_is, resumed_is, alone_is}
-use Rattle.positions.proofs.laws.moves_are_the_definitions.Goals as goal
-
-pub returns : goal.returns
-returns c = record { inlined = inlined_is; detached = detached_is; attached = attached_is; resumed = resumed_is; joined = joined_is; alone = alone_is }

@@ -1,5 +1,0 @@
-use Rattle.positions.proofs.Layered.{layers_kept}
-use Rattle.positions.proofs.laws.steps_keep_layers.Goals as goal
-
-pub returns : goal.returns
-returns c = record { layers = layers_kept }
