@@ -1,5 +1,5 @@
 -- Records in a row, found one after another, and a block of them.
-use Rattle.std.proofs.Common.{◌≡◌, ℕ, zero, suc, ◌<◌, ℤ, Bool, true, List, [], ◌∷◌, ◌++◌, length, map, All, refl, sym, ap, ◌∙◌, subst, arith, take, get_or, ◌+◌}
+use Rattle.std.proofs.Common.{◌≡◌, ℕ, zero, suc, ◌<◌, ℤ, Bool, true, List, [], ◌∷◌, ◌++◌, length, map, All, refl, sym, ap, ◌∙◌, subst, arith, take, get_or, ◌+◌, ◌-◌}
 use Rattle.std.specs.Prelude.{◌+ℤ◌, pos, slice_get, slice_set, Some, None, Option, Result, Ok, Err, IfOk, ◌≤◌}
 use Rattle.std.proofs.lemmas.Int.{ints}
 use Rattle.std.proofs.lemmas.List.{append-nil, length-set, set-set, take_all, take_more}
@@ -10,7 +10,7 @@ use Rattle.meaning.specs.Elision.{depth_limit}
 use Rattle.meaning.specs.Every.{every}
 use Rattle.record_theory.specs.Record.{PlainRecord, as_made}
 use Rattle.record_theory.specs.Named.{HasValuesIfAnswers, HaveValues}
-use Rattle.record_theory.specs.Sums.{IsSumOf}
+use Rattle.record_theory.specs.Sums.{IsSumOf, arguments_of_last}
 use Rattle.gathered_records.specs.Summing.{PlainSum, at_places, got_before, added, summed, HasSummed}
 use Rattle.rerun_records.specs.Blocks.{PlainBlock, AreLeaves, BlockFits, is_fresh_at}
 use Rattle.gathered_records.specs.Gathering.{PlainRow, moved_to, IsThere, AreInRow, IsPart}
@@ -246,14 +246,24 @@ record_more kinds rs ps i p d s new monoids values l at none some low h =
           (one_record_more kinds (at_places rs (take i ps)) s r monoids (got_has (HasValuesIfAnswers kinds) rs p r values e (low r e)) h)
     ] refl))
 
--- the record made of the sum, where memory for it was there
-pub sum_over : {E : Type 0} (made : Result PlainRecord E) (kinds : List Kind) (rs : List PlainRecord) (ps : List ℕ) (i : ℕ) (s : PlainSum) → 0 < length (at_places rs ps) → length ps ≤ i
-    → HasSummed kinds (at_places rs (take i ps)) s → IfOk made (λ x. x ≡ summed s) → IfOk made (λ x. IsSumOf kinds (at_places rs ps) x)
-sum_over (Err e) kinds rs ps i s some over h is = tt
-sum_over (Ok x) kinds rs ps i s some over h is =
-    subst (IsSumOf kinds (at_places rs ps)) (sym is)
-    (sum_is kinds (at_places rs ps) s some (subst (λ qs. HasSummed kinds (at_places rs qs) s) (take_all i ps over) h))
+-- the record at the last place
+pub last_of : (vs : List ℤ) (rs : List PlainRecord) (ps : List ℕ) (p : ℕ) (r : PlainRecord) → Some p ≡ slice_get ps (length ps - 1) → slice_get rs p ≡ Some r → arguments_of_last vs (at_places rs ps) ≡ r.arguments
+last_of vs rs [] p r e at = absurd cc
+last_of vs rs (q ∷ []) p r e at = ap (λ n. arguments_of_last vs (got_before (slice_get rs n) [])) (let s : q ≡ p = cc in s) ∙ ap (λ o. arguments_of_last vs (got_before o [])) at
+last_of vs rs (q ∷ n ∷ ps) p r e at =
+    let long : suc (suc (length ps)) - 1 ≡ suc (length ps) = omega arith in
+    let less : suc (length ps) - 1 ≡ length ps = omega arith in
+    let rest : Some p ≡ slice_get (n ∷ ps) (length (n ∷ ps) - 1) = e ∙ ap (slice_get (q ∷ n ∷ ps)) long ∙ ap (slice_get (n ∷ ps)) (sym less) in
+    elim (slice_get rs q) as (λ o. arguments_of_last vs (got_before o (at_places rs (n ∷ ps))) ≡ r.arguments) [
+      | None ↦ last_of vs rs (n ∷ ps) p r rest at
+      | Some x ↦ last_of x.arguments rs (n ∷ ps) p r rest at
+    ]
 
-pub wide_sum : (kinds : List Kind) (rs : List PlainRecord) (row : PlainRow) (first : ℤ) (ps : List ℕ) (s : PlainSum) → AreInRow rs row first ps → 0 < length ps
-    → HasSummed kinds (at_places (map as_made rs) ps) s → IsSumOf kinds (at_places (map as_made rs) ps) (summed s)
-wide_sum kinds rs row first ps s in_row some h = sum_is kinds (at_places (map as_made rs) ps) s (subst (λ n. 0 < n) (row_count rs row first ps in_row) some) h
+-- the record made of the sum, where memory for it was there
+pub sum_over : {E : Type 0} (made : Result PlainRecord E) (kinds : List Kind) (rs : List PlainRecord) (s : PlainSum) (last : PlainRecord) → 0 < length rs → arguments_of_last [] rs ≡ last.arguments
+    → HasSummed kinds rs s → IfOk made (λ x. x ≡ summed s last) → IfOk made (λ x. IsSumOf kinds rs x)
+sum_over (Err e) kinds rs s last some ends h is = tt
+sum_over (Ok x) kinds rs s last some ends h is = subst (IsSumOf kinds rs) (sym is) (sum_is kinds rs s last some ends h)
+
+pub some_in_row : (rs : List PlainRecord) (row : PlainRow) (first : ℤ) (ps : List ℕ) → AreInRow rs row first ps → 0 < length ps → 0 < length (at_places (map as_made rs) ps)
+some_in_row rs row first ps in_row some = subst (λ n. 0 < n) (row_count rs row first ps in_row) some

@@ -1,8 +1,8 @@
 -- A sum of records, made one record after another, and the sum of sums.
-use Rattle.std.proofs.Common.{◌≡◌, ℕ, zero, suc, ◌<◌, ℤ, true, false, cond, List, [], ◌∷◌, ◌++◌, length, All, Contains, ⊎_elim, refl, sym, ap, ◌∙◌, subst, arith, append_assoc, map, get_or, set}
+use Rattle.std.proofs.Common.{◌≡◌, ℕ, zero, suc, ◌+◌, ◌<◌, ℤ, true, false, cond, List, [], ◌∷◌, ◌++◌, length, All, Contains, ⊎_elim, refl, sym, ap, ◌∙◌, subst, arith, append_assoc, map, drop, get_or, set}
 use Rattle.std.specs.Prelude.{max, nat_eq, slice_get, slice_set, Some, ◌||◌}
 use Rattle.std.specs.List.{flat_map, list_any}
-use Rattle.std.proofs.lemmas.List.{append-nil, get_or-map, length-map, map-append, map-set}
+use Rattle.std.proofs.lemmas.List.{append-nil, drop_more, get_or-map, length-map, map-append, map-set}
 use Rattle.std.proofs.lemmas.Grind.{flat_map-append}
 use Rattle.std.proofs.Math.Seq.{set-append_seam}
 use Rattle.std.proofs.lemmas.List.Elements.{Contains-append_left, Contains-append_right, Contains-append_cases}
@@ -15,7 +15,7 @@ use Rattle.monoid_laws.proofs.Rows.{operate_all_identities, operate_all_assoc, o
 use Rattle.record_theory.specs.Record.{PlainRecord, touched}
 use Rattle.record_theory.specs.Named.{filled, SameMembers, IsValueAt, AreValuesFrom}
 use Rattle.record_theory.specs.Sums.{IsSumOf, contributed, highest, arguments_of_last}
-use Rattle.gathered_records.specs.Summing.{PlainSum, same_entry, put_entry, put_entries, numbered_from, summed, nothing_summed, added, HasSummed}
+use Rattle.gathered_records.specs.Summing.{PlainSum, same_entry, put_entry, put_entries, worth_in, numbered_from, summed, nothing_summed, added, HasSummed}
 use Rattle.record_theory.proofs.Absorbed.{each, same_at, filled_right}
 use Rattle.record_theory.proofs.Members.{left_is, right_is}
 use Rattle.record_theory.proofs.Singles.{sum_of_one}
@@ -116,41 +116,39 @@ identities_length : (ks : List Kind) → length (identities ks) ≡ length ks
 identities_length [] = refl
 identities_length (k ∷ ks) = ap suc (identities_length ks)
 
--- one more value with its number
-pub numbered_next : (es new : List (ℕ × Val)) (vs rest : List Val) (v : Val) (total : List (ℕ × Worth))
-    → map touched es ++ numbered_from (length es) (map meaning vs) ≡ total → vs ≡ v ∷ rest → new ≡ es ++ (length es, v) ∷ []
-    → map touched new ++ numbered_from (length new) (map meaning rest) ≡ total
-numbered_next es new vs rest v total so_far is more =
-    let long : length new ≡ suc (length es) = ap length more ∙ sym (length_behind es (length es, v) (length es) refl) in
-    ap (λ n. map touched new ++ numbered_from n (map meaning rest)) long
-    ∙ ap (λ ds. map touched ds ++ numbered_from (suc (length es)) (map meaning rest)) more
-    ∙ ap (λ ds. ds ++ numbered_from (suc (length es)) (map meaning rest)) (map-append touched es ((length es, v) ∷ []))
-    ∙ append_assoc (map touched es) ((length es, meaning v) ∷ []) (numbered_from (suc (length es)) (map meaning rest))
-    ∙ ap (λ us. map touched es ++ numbered_from (length es) (map meaning us)) (sym is)
-    ∙ so_far
+-- values that stand behind their numbers, from one of them on
+pub numbered_more : (es : List (ℕ × Val)) (i : ℕ) (e : ℕ × Val) → i < length es → e ≡ get_or es i e → e.0 ≡ i
+    → map touched (drop (i + 1) es) ≡ numbered_from (i + 1) (map worth_in (drop (i + 1) es)) → map touched (drop i es) ≡ numbered_from i (map worth_in (drop i es))
+numbered_more es i e l at is rest =
+    let next : drop i es ≡ e ∷ drop (i + 1) es = drop_more es i e l ∙ ap (λ d. d ∷ drop (i + 1) es) (sym at) in
+    let one : suc i ≡ i + 1 = omega arith in
+    ap (map touched) next
+    ∙ ap (λ n. (n, meaning e.1) ∷ map touched (drop (i + 1) es)) is
+    ∙ ap (λ ds. (i, meaning e.1) ∷ ds) (rest ∙ ap (λ n. numbered_from n (map worth_in (drop (i + 1) es))) (sym one))
+    ∙ ap (λ ds. numbered_from i (map worth_in ds)) (sym next)
 
 -- ---- a value combined with that of its reducer
 
 mapped_at : {A B : Type 0} (f : A → B) (xs : List A) (i : ℕ) (x : A) → i < length xs → x ≡ get_or xs i x → f x ≡ get_or (map f xs) i (f x)
 mapped_at f xs i x l e = ap f e ∙ sym (get_or-map f xs i x (f x) l)
 
-module _ (ks : List Kind) (vs : List Val) (i : ℕ) (are : AreWorths ks (map meaning vs)) (within : i < length ks) where
+module _ (ks : List Kind) (vs : List (ℕ × Val)) (i : ℕ) (are : AreWorths ks (map worth_in vs)) (within : i < length ks) where
   pub held_within : i < length vs
-  held_within = let e : length ks ≡ length vs = each ks (map meaning vs) are ∙ length-map vs meaning in subst (λ n. i < n) e within
+  held_within = let e : length ks ≡ length vs = each ks (map worth_in vs) are ∙ length-map vs worth_in in subst (λ n. i < n) e within
 
-  module _ (k : Kind) (v : Val) (at_k : k ≡ get_or ks i k) (at_v : v ≡ get_or vs i v) where
-    held_at : meaning v ≡ get_or (map meaning vs) i (meaning v)
-    held_at = mapped_at meaning vs i v held_within at_v
+  module _ (k : Kind) (v : ℕ × Val) (at_k : k ≡ get_or ks i k) (at_v : v ≡ get_or vs i v) where
+    held_at : worth_in v ≡ get_or (map worth_in vs) i (worth_in v)
+    held_at = mapped_at worth_in vs i v held_within at_v
 
-    pub held_right : IsWorth k (meaning v)
-    held_right = AreWorths-at ks (map meaning vs) i k (meaning v) are within at_k held_at
+    pub held_right : IsWorth k (worth_in v)
+    held_right = AreWorths-at ks (map worth_in vs) i k (worth_in v) are within at_k held_at
 
-    pub put_back : (new : Val) (w : Worth) (c : Kind) (x : Worth) → c ≡ get_or ks i c → x ≡ get_or (map meaning vs) i x → meaning new ≡ operate k (meaning v) w
-        → map meaning (set vs i new) ≡ set (map meaning vs) i (operate c x w)
+    pub put_back : (new : ℕ × Val) (w : Worth) (c : Kind) (x : Worth) → c ≡ get_or ks i c → x ≡ get_or (map worth_in vs) i x → worth_in new ≡ operate k (worth_in v) w
+        → map worth_in (set vs i new) ≡ set (map worth_in vs) i (operate c x w)
     put_back new w c x at_c at_x e =
         let same_kind : k ≡ c = same_at ks i k c within at_k at_c in
-        let same_worth : meaning v ≡ x = same_at (map meaning vs) i (meaning v) x (subst (λ n. i < n) (each ks (map meaning vs) are) within) held_at at_x in
-        map-set meaning vs i new ∙ ap (set (map meaning vs) i) (e ∙ ap (λ d. operate d (meaning v) w) same_kind ∙ ap (λ y. operate c y w) same_worth)
+        let same_worth : worth_in v ≡ x = same_at (map worth_in vs) i (worth_in v) x (subst (λ n. i < n) (each ks (map worth_in vs) are) within) held_at at_x in
+        map-set worth_in vs i new ∙ ap (set (map worth_in vs) i) (e ∙ ap (λ d. operate d (worth_in v) w) same_kind ∙ ap (λ y. operate c y w) same_worth)
 
 -- ---- what is made of records one after another
 
@@ -161,17 +159,13 @@ height_append : (rs ss : List PlainRecord) → highest (rs ++ ss) ≡ max (highe
 height_append [] ss = omega arith
 height_append (r ∷ rs) ss = ap (max r.height) (height_append rs ss) ∙ sym (max_assoc r.height (highest rs) (highest ss))
 
-last_append : (vs : List ℤ) (rs ss : List PlainRecord) → arguments_of_last vs (rs ++ ss) ≡ arguments_of_last (arguments_of_last vs rs) ss
-last_append vs [] ss = refl
-last_append vs (r ∷ rs) ss = last_append r.arguments rs ss
-
 module _ (kinds : List Kind) where
   contributed_append : (ws : List Worth) (rs ss : List PlainRecord) → contributed kinds ws (rs ++ ss) ≡ contributed kinds (contributed kinds ws rs) ss
   contributed_append ws [] ss = refl
   contributed_append ws (r ∷ rs) ss = contributed_append (operate_all kinds ws (filled (identities kinds) r.contribution)) rs ss
 
   pub nothing_summed_so : All IsMonoid kinds → HasSummed kinds [] (nothing_summed kinds)
-  nothing_summed_so monoids = record { worths = λ ws are. operate_all_identities kinds ws monoids are; right = AreWorths-identities kinds; reads = refl; entered = members_same [] [] refl; height = refl; arguments = refl }
+  nothing_summed_so monoids = record { worths = λ ws are. operate_all_identities kinds ws monoids are; right = AreWorths-identities kinds; reads = refl; entered = members_same [] [] refl; height = refl }
 
   -- one part more, which is the sum of some records
   pub one_part_more : (rs qs : List PlainRecord) (s : PlainSum) (part : PlainRecord) → All IsMonoid kinds → HasSummed kinds rs s → IsSumOf kinds qs part → HasSummed kinds (rs ++ qs) (added kinds s part)
@@ -189,20 +183,19 @@ module _ (kinds : List Kind) where
         (members_append s.entered (flat_map (λ r. r.entered) rs) part.entered (flat_map (λ r. r.entered) qs) h.entered is.entered)
         (members_same (flat_map (λ r. r.entered) rs ++ flat_map (λ r. r.entered) qs) (flat_map (λ r. r.entered) (rs ++ qs)) (sym (flat_map-append (λ r. r.entered) rs qs))));
     height = ap (λ n. max n part.height) h.height ∙ ap (max (highest rs)) is.height ∙ sym (height_append rs qs);
-    arguments = sym (last_append [] rs qs ∙ is.arguments (arguments_of_last [] rs));
   }
 
   pub one_record_more : (rs : List PlainRecord) (s : PlainSum) (r : PlainRecord) → All IsMonoid kinds → AreValuesFrom 0 kinds r.contribution → HasSummed kinds rs s → HasSummed kinds (rs ++ r ∷ []) (added kinds s r)
   one_record_more rs s r monoids v h = one_part_more rs (r ∷ []) s r monoids h (sum_of_one kinds r v)
 
   -- the record of the sum of some records
-  pub sum_is : (rs : List PlainRecord) (s : PlainSum) → 0 < length rs → HasSummed kinds rs s → IsSumOf kinds rs (summed s)
-  sum_is [] s l h = absurd (omega (arith, l))
-  sum_is (r ∷ rs) s l h = record {
+  pub sum_is : (rs : List PlainRecord) (s : PlainSum) (last : PlainRecord) → 0 < length rs → arguments_of_last [] rs ≡ last.arguments → HasSummed kinds rs s → IsSumOf kinds rs (summed s last)
+  sum_is [] s last l e h = absurd (omega (arith, l))
+  sum_is (r ∷ rs) s last l e h = record {
     worths = λ ws are. ap (operate_all kinds ws) (all_filled [] (identities kinds) s.worths 0 refl (identities_length kinds ∙ each kinds s.worths h.right)) ∙ h.worths ws are;
     values = numbered_values [] kinds 0 s.worths refl h.right;
     reads = h.reads;
     entered = h.entered;
     height = h.height;
-    arguments = λ vs. sym h.arguments;
+    arguments = λ vs. e;
   }

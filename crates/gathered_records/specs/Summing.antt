@@ -1,19 +1,17 @@
 -- A sum of records as it is made, one record after another.
-use Rattle.std.specs.Prelude.{◌≡◌, ℕ, suc, nat_eq, max, ℤ, pos, Bool, ◌&&◌, cond, List, [], ◌∷◌, ◌++◌, Option, Some, None, slice_get}
+use Rattle.std.specs.Prelude.{◌≡◌, ℕ, suc, nat_eq, max, Bool, ◌&&◌, cond, List, [], ◌∷◌, ◌++◌, Option, Some, None, slice_get}
 use Rattle.std.specs.List.{flat_map, list_any}
 use Rattle.monoid_laws.specs.Worth.{Worth}
 use Rattle.monoid_laws.specs.declared.Kind.{Kind}
-use Rattle.monoid_laws.specs.Kinds.{operate_all, identities, AreWorths}
+use Rattle.monoid_laws.specs.declared.Val.{Val}
+use Rattle.monoid_laws.specs.Kinds.{meaning, operate_all, identities, AreWorths}
 use Rattle.evaluation.specs.declared.note.Note.{Note}
 use Rattle.record_theory.specs.Record.{PlainRecord}
 use Rattle.record_theory.specs.Named.{filled, SameMembers}
-use Rattle.record_theory.specs.Sums.{contributed, highest, arguments_of_last}
+use Rattle.record_theory.specs.Sums.{contributed, highest}
 
--- what the records have together so far: the values of all reducers, and procedure, arguments and value of the last record
+-- what the records have together so far: the values of all reducers, what was read and entered, and the greatest height
 pub record PlainSum : Type 0 where
-  pub procedure : ℕ
-  pub arguments : List ℤ
-  pub value : ℤ
   pub worths : List Worth
   pub reads : List Note
   pub entered : List (ℕ × ℕ)
@@ -30,17 +28,21 @@ abbrev pub put_entries : List (ℕ × ℕ) → List (ℕ × ℕ) → List (ℕ �
 put_entries es [] = es
 put_entries es (d ∷ ds) = put_entries (put_entry es d) ds
 
+-- the value that stands behind a number
+abbrev pub worth_in : ℕ × Val → Worth
+worth_in e = meaning e.1
+
 -- values with the numbers of their reducers
 abbrev pub numbered_from : ℕ → List Worth → List (ℕ × Worth)
 numbered_from i [] = []
 numbered_from i (w ∷ ws) = (i, w) ∷ numbered_from (suc i) ws
 
--- what the records have together
-abbrev pub summed : PlainSum → PlainRecord
-summed s = record {
-  procedure = s.procedure;
-  arguments = s.arguments;
-  value = s.value;
+-- what the records have together, with procedure, arguments and value of that one
+abbrev pub summed : PlainSum → PlainRecord → PlainRecord
+summed s last = record {
+  procedure = last.procedure;
+  arguments = last.arguments;
+  value = last.value;
   contribution = numbered_from 0 s.worths;
   reads = s.reads;
   entered = s.entered;
@@ -52,15 +54,12 @@ summed s = record {
 module _ (kinds : List Kind) where
   -- of no records
   abbrev pub nothing_summed : PlainSum
-  nothing_summed = record { procedure = 0; arguments = []; value = pos 0; worths = identities kinds; reads = []; entered = []; height = 0 }
+  nothing_summed = record { worths = identities kinds; reads = []; entered = []; height = 0 }
 
   -- with one record more
   abbrev pub added : PlainSum → PlainRecord → PlainSum
   added s r =
       record {
-        procedure = r.procedure;
-        arguments = r.arguments;
-        value = r.value;
         worths = operate_all kinds s.worths (filled (identities kinds) r.contribution);
         reads = s.reads ++ r.reads;
         entered = put_entries s.entered r.entered;
@@ -74,7 +73,6 @@ module _ (kinds : List Kind) where
     pub reads : s.reads ≡ flat_map (λ r. r.reads) rs
     pub entered : SameMembers s.entered (flat_map (λ r. r.entered) rs)
     pub height : s.height ≡ highest rs
-    pub arguments : s.arguments ≡ arguments_of_last [] rs
 
 -- the records at these places, one after another; a place at which none is counts for nothing
 abbrev pub got_before : Option PlainRecord → List PlainRecord → List PlainRecord

@@ -88,9 +88,9 @@ fn whole_part(
     if is_cut { None } else { Some(part) }
 }
 
-// Whether blocks of that width lie across the ends of these numbers.
+// Whether blocks of that width lie across the ends of these numbers; not where they begin with that of a row, which is part of none.
 fn is_cut(records: &Records, width: Width, row: &mut Row, bounds: Bounds, kinds: &[Kind]) -> bool {
-    is_across(records, width, row, bounds.first, kinds)
+    row.number() != bounds.first && is_across(records, width, row, bounds.first, kinds)
         || is_across(records, width, row, bounds.last.wrapping_add(1), kinds)
 }
 

@@ -244,6 +244,7 @@ fn lowest(records: &Records, row: &mut Row, bounds: Bounds) -> i64 {
 }
 
 // The places of the records in a row from that number on of which all readings are held, as far as to the last of these numbers.
+#[inline(never)]
 fn fresh_in_row(
     records: &Records,
     alloc: Global,
@@ -274,7 +275,7 @@ fn next_fresh(records: &Records, row: &mut Row, first: i64, step: usize) -> Opti
     if !go_on(row, first, step) {
         return None;
     }
-    let place = find_row(records, row)?;
+    let place = find_near(records, row)?;
     if records.is_fresh(place as usize) {
         Some(place)
     } else {
@@ -284,6 +285,14 @@ fn next_fresh(records: &Records, row: &mut Row, first: i64, step: usize) -> Opti
 
 /// The place of the record of the row's instance. It is looked for at the near place first.
 pub(crate) fn find_row(records: &Records, row: &Row) -> Option<u32>
+    ensures there { IfSome result (λ place. IsThere records.now row.now place) }
+{
+    find_near(records, row)
+}
+
+// The same, where many are looked for.
+#[inline(always)]
+fn find_near(records: &Records, row: &Row) -> Option<u32>
     ensures there { IfSome result (λ place. IsThere records.now row.now place) }
 {
     match records.place_near(row.near(), row.procedure(), row.arguments()) {

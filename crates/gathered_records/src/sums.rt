@@ -1,5 +1,6 @@
 //! One record that has what several have together.
-ghost use Rattle.std.specs.Prelude.{◌≡◌, ◌<◌, ◌≤◌, ◌++◌, ◌∷◌, [], IfOk, OnOk, All, length, map, slice_get, slice_index_or, slice_set, None, Some};
+ghost use Rattle.std.specs.Prelude.{◌≡◌, ◌-◌, ◌<◌, ◌≤◌, ◌++◌, ◌∷◌, [], IfOk, IfSome, OnOk, All, length, map};
+ghost use Rattle.std.specs.Prelude.{slice_get, slice_index_or, slice_set, None, Some, true};
 ghost use Rattle.std.specs.List.{list_any};
 ghost use Rattle.monoid_laws.specs.Worth.{Worth};
 ghost use Rattle.monoid_laws.specs.declared.Kind.{Kind as PlainKind};
@@ -8,15 +9,16 @@ ghost use Rattle.meaning.specs.Elision.{depth_limit};
 ghost use Rattle.record_theory.specs.Record.{PlainRecord, touched};
 ghost use Rattle.record_theory.specs.Named.{filled, AreValuesFrom, HaveValues};
 ghost use Rattle.instance_records.specs.ShortLists.{items_in};
-ghost use Rattle.record_theory.specs.Sums.{IsSumOf};
-ghost use Rattle.gathered_records.specs.Summing.{nothing_summed, added, summed, same_entry, put_entry, put_entries, numbered_from, at_places};
+ghost use Rattle.record_theory.specs.Sums.{IsSumOf, arguments_of_last};
+ghost use Rattle.gathered_records.specs.Summing.{nothing_summed, added, summed, worth_in, same_entry, put_entry, put_entries};
+ghost use Rattle.gathered_records.specs.Summing.{numbered_from, at_places, HasSummed};
 
 use instance_records::readings::Readings;
 use instance_records::record::Record;
 use instance_records::short_list::ShortList;
 use meaning::DEPTH_LIMIT;
 use monoid_laws::{Kind, Val};
-use reducer_values::{combine_copy, identity};
+use reducer_values::{combine, combine_copy, identity};
 use std::alloc::{AllocError, Global};
 use std::marker::Model;
 
@@ -27,10 +29,8 @@ const MOST: usize = 64;
 /// What records have together so far: it begins with none, and each is added behind those before it.
 #[derive(Drop)]
 pub(crate) struct Sum {
-    procedure: usize,
-    arguments: ShortList<i64>,
-    value: i64,
-    worths: Vec<Val>,
+    // The value of each reducer behind its number.
+    values: Vec<(usize, Val)>,
     reads: Vec<Readings>,
     entered: ShortList<(usize, u64)>,
     height: u32,
@@ -38,18 +38,14 @@ pub(crate) struct Sum {
 
 impl Model for Sum {
     ghost use Rattle.std.specs.Prelude.{map};
-    ghost use Rattle.monoid_laws.specs.Kinds.{meaning};
     ghost use Rattle.instance_records.specs.Readings.{all_of};
     ghost use Rattle.instance_records.specs.ShortLists.{items_in};
-    ghost use Rattle.gathered_records.specs.Summing.{PlainSum};
+    ghost use Rattle.gathered_records.specs.Summing.{PlainSum, worth_in};
 
     ghost Value = { PlainSum };
 
     ghost view = { λ s. record {
-      procedure = s.procedure;
-      arguments = items_in s.arguments;
-      value = s.value;
-      worths = map meaning s.worths.items;
+      worths = map worth_in s.values.items;
       reads = all_of s.reads.items;
       entered = items_in s.entered;
       height = s.height;
@@ -62,10 +58,7 @@ impl Sum {
         ensures none { IfOk result (λ s. s ≡ nothing_summed kinds.now) }
     {
         Ok(Sum {
-            procedure: 0,
-            arguments: ShortList::new(Vec::new(alloc)),
-            value: 0,
-            worths: units(alloc, kinds)?,
+            values: units(alloc, kinds)?,
             reads: Vec::with_capacity(alloc, room)?,
             entered: ShortList::new(Vec::new(alloc)),
             height: 0,
@@ -74,6 +67,7 @@ impl Sum {
 
     /// Adds a record behind the others. It is refused for want of memory, or where a value has grown past what a sum keeps; the
     /// sum is of no use then.
+    #[inline(always)]
     pub(crate) fn add(
         &mut self,
         alloc: Global,
@@ -85,27 +79,28 @@ impl Sum {
         requires values { AreValuesFrom 0 kinds.now record.now.contribution }
         ensures added { OnOk result (self.new ≡ added kinds.now self.old record.now) }
     {
-        add_values(&mut self.worths, alloc, kinds, record.contribution())?;
+        add_values(&mut self.values, alloc, kinds, record.contribution())?;
         add_reads(&mut self.reads, record.reads())?;
         add_entries(alloc, &mut self.entered, record.entered())?;
-        self.arguments = ShortList::from_slice(alloc, record.arguments())?;
-        self.procedure = record.procedure();
-        self.value = record.value();
         self.height = self.height.max(record.height());
         Ok(())
     }
 
-    /// The record that has what those have together.
-    pub(crate) fn finish(self, alloc: Global) -> Result<Record, AllocError>
-        ensures summed { IfOk result (λ r. r ≡ summed self) }
+    /// The record that has what those have together, and procedure, arguments and value of that one, the last of them. It is refused
+    /// where a value has grown past what a sum keeps, too.
+    pub(crate) fn finish(self, alloc: Global, last: &Record) -> Result<Record, AllocError>
+        ensures summed { IfOk result (λ r. r ≡ summed self last.now) }
     {
-        let contribution = numbered(alloc, self.worths)?;
+        if !are_numbered(&self.values) {
+            return Err(AllocError);
+        }
+        let arguments = ShortList::from_slice(alloc, last.arguments())?;
         let reads = Readings::new(alloc, ShortList::new(Vec::new(alloc)), self.reads)?;
         Ok(Record::new(
-            self.procedure,
-            self.arguments,
-            self.value,
-            contribution,
+            last.procedure(),
+            arguments,
+            last.value(),
+            self.values,
             reads,
             self.entered,
             self.height,
@@ -114,6 +109,7 @@ impl Sum {
 }
 
 /// The record that has what those at these places have together; refused as `Sum::add` is.
+#[inline(never)]
 pub(crate) fn sum_at(
     alloc: Global,
     kinds: &[Kind],
@@ -129,11 +125,57 @@ pub(crate) fn sum_at(
     for place in places {
         add_record(&mut sum, alloc, kinds, records, *place as usize)?;
     }
-    sum.finish(alloc)
+    finish_at(alloc, sum, kinds, records, places)
+}
+
+/// The record that has what those at these places have together, of which it is the sum.
+pub(crate) fn finish_at(
+    alloc: Global,
+    sum: Sum,
+    _kinds: &[Kind],
+    records: &[Record],
+    places: &[u32],
+) -> Result<Record, AllocError>
+    requires some { 0 < length (at_places records.now places.now) }
+    requires summed { HasSummed _kinds.now (at_places records.now places.now) sum }
+    ensures sum { IfOk result (λ s. IsSumOf _kinds.now (at_places records.now places.now) s) }
+{
+    match last_at(records, places) {
+        Some(last) => sum.finish(alloc, last),
+        None => Err(AllocError),
+    }
+}
+
+// The record at the last of these places.
+#[tactic(auto, using(crate::proofs::Rows::last_of))]
+fn last_at<'a>(records: &'a [Record], places: &[u32]) -> Option<&'a Record>
+    ensures last { IfSome result (λ last. arguments_of_last [] (at_places records.now places.now) ≡ last.now.arguments) }
+{
+    let place = last_place(places)?;
+    let record = record_at(records, place)?;
+    Some(record)
+}
+
+// The last of these places.
+fn last_place(places: &[u32]) -> Option<usize>
+    ensures last { IfSome result (λ p. Some p ≡ slice_get places.now (length places.now - 1)) }
+{
+    match places.last() {
+        Some(place) => Some(*place as usize),
+        None => None,
+    }
+}
+
+// The record at that place.
+fn record_at(records: &[Record], place: usize) -> Option<&Record>
+    ensures there { IfSome result (λ r. slice_get records.now place ≡ Some r.now) }
+{
+    records.get(place)
 }
 
 // Adds the record at that place; where none is, nothing. One that is too high to answer at any depth is refused: nothing is
 // known of its values.
+#[inline(always)]
 fn add_record(
     sum: &mut Sum,
     alloc: Global,
@@ -157,57 +199,105 @@ fn add_record(
     }
 }
 
-// The values that change nothing.
-fn units(alloc: Global, kinds: &[Kind]) -> Result<Vec<Val>, AllocError>
-    ensures identities { IfOk result (λ ws. map meaning ws.items ≡ identities kinds.now) }
+// The values that change nothing, each behind its reducer's number.
+fn units(alloc: Global, kinds: &[Kind]) -> Result<Vec<(usize, Val)>, AllocError>
+    ensures identities { IfOk result (λ es. map worth_in es.items ≡ identities kinds.now) }
 {
-    let mut worths = Vec::with_capacity(alloc, kinds.len())?;
+    let mut values = Vec::with_capacity(alloc, kinds.len())?;
     for kind in kinds {
-        worths.push(identity(alloc, *kind))?;
+        let number = values.len();
+        values.push((number, identity(alloc, *kind)))?;
     }
-    Ok(worths)
+    Ok(values)
 }
 
 // Combines copies of these values on the right of the reducers' values.
+#[inline(always)]
 fn add_values(
-    worths: &mut Vec<Val>,
+    held: &mut Vec<(usize, Val)>,
     alloc: Global,
     kinds: &[Kind],
     values: &[(usize, Val)],
 ) -> Result<(), AllocError>
     requires monoids { All IsMonoid kinds.now }
-    requires worths { AreWorths kinds.now (map meaning worths.old.items) }
+    requires worths { AreWorths kinds.now (map worth_in held.old.items) }
     requires values { AreValuesFrom 0 kinds.now (map touched values.now) }
-    ensures added { OnOk result (map meaning worths.new.items
-        ≡ operate_all kinds.now (map meaning worths.old.items) (filled (identities kinds.now) (map touched values.now))) }
+    ensures added { OnOk result (map worth_in held.new.items
+        ≡ operate_all kinds.now (map worth_in held.old.items) (filled (identities kinds.now) (map touched values.now))) }
 {
     for entry in values {
-        add_at(worths, alloc, kinds, entry.0, &entry.1)?;
+        add_at(held, alloc, kinds, entry.0, &entry.1)?;
     }
     Ok(())
 }
 
 // Combines a copy of a value on the right of the reducer of that number.
+#[inline(always)]
 fn add_at(
-    worths: &mut Vec<Val>,
+    held: &mut Vec<(usize, Val)>,
     alloc: Global,
     kinds: &[Kind],
     reducer: usize,
     value: &Val,
 ) -> Result<(), AllocError>
     requires there { reducer < length kinds.now }
-    requires worths { AreWorths kinds.now (map meaning worths.old.items) }
+    requires worths { AreWorths kinds.now (map worth_in held.old.items) }
     requires of_kind { (c : PlainKind) → c ≡ slice_index_or kinds.now reducer c → IsWorth c (meaning value.now) }
     ensures added { (c : PlainKind) (x : Worth) → c ≡ slice_index_or kinds.now reducer c
-        → x ≡ slice_index_or (map meaning worths.old.items) reducer x
-        → OnOk result (map meaning worths.new.items
-        ≡ slice_set (map meaning worths.old.items) reducer (operate c x (meaning value.now))) }
+        → x ≡ slice_index_or (map worth_in held.old.items) reducer x
+        → OnOk result (map worth_in held.new.items
+        ≡ slice_set (map worth_in held.old.items) reducer (operate c x (meaning value.now))) }
 {
-    add_value(&mut worths[reducer], alloc, &kinds[reducer], value)
+    add_to(&mut held[reducer], alloc, &kinds[reducer], value)
 }
 
-// Combines a copy of a value on the right of another.
+// Combines a copy of a value on the right of a reducer's.
+#[inline(always)]
+fn add_to(
+    held: &mut (usize, Val),
+    alloc: Global,
+    kind: &Kind,
+    value: &Val,
+) -> Result<(), AllocError>
+    requires held { IsWorth kind.now (worth_in held.old) }
+    requires value { IsWorth kind.now (meaning value.now) }
+    ensures added { OnOk result (worth_in held.new ≡ operate kind.now (worth_in held.old) (meaning value.now)) }
+{
+    add_value(&mut held.1, alloc, kind, value)
+}
+
+// Combines a copy of a value on the right of another. Numbers and best pairs are quickest.
+#[inline(always)]
 fn add_value(held: &mut Val, alloc: Global, kind: &Kind, value: &Val) -> Result<(), AllocError>
+    requires held { IsWorth kind.now (meaning held.old) }
+    requires value { IsWorth kind.now (meaning value.now) }
+    ensures added { OnOk result
+        (meaning held.new ≡ operate kind.now (meaning held.old) (meaning value.now)) }
+{
+    match value {
+        Val::Int(number) => add_flat(held, alloc, kind, Val::Int(*number)),
+        Val::Arg(best) => add_flat(held, alloc, kind, Val::Arg(*best)),
+        other => add_grown(held, alloc, kind, other),
+    }
+}
+
+// Combines a value that takes no memory on the right of another.
+#[inline(always)]
+fn add_flat(held: &mut Val, alloc: Global, kind: &Kind, value: Val) -> Result<(), AllocError>
+    requires held { IsWorth kind.now (meaning held.old) }
+    requires value { IsWorth kind.now (meaning value) }
+    ensures added { OnOk result
+        (meaning held.new ≡ operate kind.now (meaning held.old) (meaning value)) }
+{
+    match combine(alloc, kind, held, value) {
+        Ok(()) => Ok(()),
+        Err(_) => Err(AllocError),
+    }
+}
+
+// Combines a copy of a value of any form on the right of another; refused where it is of many numbers.
+#[inline(never)]
+fn add_grown(held: &mut Val, alloc: Global, kind: &Kind, value: &Val) -> Result<(), AllocError>
     requires held { IsWorth kind.now (meaning held.old) }
     requires value { IsWorth kind.now (meaning value.now) }
     ensures added { OnOk result
@@ -219,20 +309,23 @@ fn add_value(held: &mut Val, alloc: Global, kind: &Kind, value: &Val) -> Result<
     combine_copy(alloc, kind, held, value)
 }
 
-// The reducers' values with their numbers; refused where one of them is too long.
-fn numbered(alloc: Global, worths: Vec<Val>) -> Result<Vec<(usize, Val)>, AllocError>
-    ensures numbered { IfOk result (λ es.
-        map touched es.items ≡ numbered_from 0 (map meaning worths.items)) }
+// Whether each of these values stands behind the number of its place, and none is too long.
+fn are_numbered(values: &[(usize, Val)]) -> bool
+    ensures numbered { result ≡ true → map touched values.now ≡ numbered_from 0 (map worth_in values.now) }
 {
-    let mut entries = Vec::with_capacity(alloc, worths.len())?;
-    for worth in worths {
-        if !is_small(&worth) {
-            return Err(AllocError);
+    for place in 0..values.len() {
+        if !is_numbered(&values[place], place) {
+            return false;
         }
-        let number = entries.len();
-        entries.push((number, worth))?;
     }
-    Ok(entries)
+    true
+}
+
+// Whether a value stands behind that number, and isn't too long.
+fn is_numbered(value: &(usize, Val), place: usize) -> bool
+    ensures numbered { result ≡ true → value.now.0 ≡ place }
+{
+    value.0 == place && is_small(&value.1)
 }
 
 // Whether a value is of few numbers.
@@ -259,6 +352,7 @@ fn are_few<T: Drop>(pieces: &[Vec<T>]) -> bool {
 }
 
 // Shares these readings, behind the others.
+#[inline(always)]
 fn add_reads(parts: &mut Vec<Readings>, reads: &Readings) -> Result<(), AllocError>
     ensures added { OnOk result (parts.new.items ≡ parts.old.items ++ reads.now ∷ []) }
 {
@@ -267,6 +361,7 @@ fn add_reads(parts: &mut Vec<Readings>, reads: &Readings) -> Result<(), AllocErr
 }
 
 // Puts in the entries that aren't there.
+#[inline(always)]
 fn add_entries(
     alloc: Global,
     entries: &mut ShortList<(usize, u64)>,
@@ -281,6 +376,7 @@ fn add_entries(
 }
 
 // Puts in an entry, unless it is there; refused where they get too many.
+#[inline(always)]
 fn add_entry(
     alloc: Global,
     entries: &mut ShortList<(usize, u64)>,
@@ -291,6 +387,18 @@ fn add_entry(
     if is_entered(entries.as_slice(), entry) {
         return Ok(());
     }
+    put_entry(alloc, entries, entry)
+}
+
+// Puts an entry behind the others; refused where they get too many.
+#[inline(never)]
+fn put_entry(
+    alloc: Global,
+    entries: &mut ShortList<(usize, u64)>,
+    entry: &(usize, u64),
+) -> Result<(), AllocError>
+    ensures put { OnOk result (items_in entries.new ≡ items_in entries.old ++ entry.now ∷ []) }
+{
     if entries.as_slice().len() >= MOST {
         return Err(AllocError);
     }
@@ -298,6 +406,7 @@ fn add_entry(
 }
 
 // Whether the entry is one of these.
+#[inline(always)]
 fn is_entered(entries: &[(usize, u64)], entry: &(usize, u64)) -> bool
     ensures entered { result ≡ list_any (same_entry entry.now) entries.now }
 {

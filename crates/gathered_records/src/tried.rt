@@ -58,23 +58,32 @@ impl Tried {
         }
     }
 
-    /// Notes that the places of a block were tried, where many of them may be asked: a word at a time, since they mostly lie in a row.
+    /// Notes that the places of a block were tried, where many of them may be asked. They mostly lie in a row.
     pub(crate) fn put_all(&mut self, places: &[u32]) {
         if !self.notes_blocks {
             return;
         }
-        let mut word = 0;
-        let mut bits = 0;
-        for place in places {
-            let place = *place as usize;
-            if place / WORD != word {
-                self.put_bits(word, bits);
-                word = place / WORD;
-                bits = 0;
+        match places.first() {
+            Some(first) if are_in_row(places, *first) => {
+                self.put_row(*first as usize, places.len())
             }
-            bits |= bit(place);
+            _ => self.put_each(places),
         }
-        self.put_bits(word, bits);
+    }
+
+    // Notes so many places from that one on, a word at a time.
+    fn put_row(&mut self, first: usize, count: usize) {
+        let last = first.saturating_add(count.saturating_sub(1));
+        for word in first / WORD..last / WORD + 1 {
+            self.put_bits(word, bits_between(word, first, last));
+        }
+    }
+
+    // Notes places one by one.
+    fn put_each(&mut self, places: &[u32]) {
+        for place in places {
+            self.put(*place as usize);
+        }
     }
 
     /// Notes that a place was tried; where memory is refused, it may be tried again.
@@ -104,4 +113,27 @@ fn put_up(page: &mut Vec<u64>, word: usize, bits: u64) {
 // The bit of a place in its word.
 fn bit(place: usize) -> u64 {
     1 << (place % WORD)
+}
+
+// The bits of the places in that word that lie between two.
+fn bits_between(word: usize, first: usize, last: usize) -> u64 {
+    let mut bits = u64::MAX;
+    if word == first / WORD {
+        bits &= u64::MAX << (first % WORD);
+    }
+    if word == last / WORD {
+        bits &= u64::MAX >> (WORD - 1 - last % WORD);
+    }
+    bits
+}
+
+// Whether these places are that one and those behind it, one after another.
+fn are_in_row(places: &[u32], first: u32) -> bool {
+    let mut next = first;
+    let mut differing = 0;
+    for place in places {
+        differing |= *place ^ next;
+        next = next.wrapping_add(1);
+    }
+    differing == 0
 }

@@ -10,7 +10,7 @@ use crate::bounds::{PARTS, bounds_at, end_around, part_above, part_below, part_o
 use crate::gathering::{begins_at, find_row, go_on, has_block, is_part, row_of};
 use crate::row::Row;
 use crate::stretch::{Bounds, Stretches};
-use crate::sums::Sum;
+use crate::sums::{Sum, finish_at};
 use crate::tried::Tried;
 use linked_program::checked::Checked;
 use monoid_laws::Kind;
@@ -21,6 +21,9 @@ use std::alloc::{AllocError, Global};
 
 /// There is room for so many blocks that are joined at first.
 const ROOM: usize = 8;
+
+/// And for so many of their places at most.
+const PLACES: usize = 2048;
 
 /// The places of the records of blocks that are joined, what these records have together, and behind how many none begins.
 #[derive(Drop)]
@@ -133,10 +136,11 @@ fn widen_row(
     ensures same { records.new ≡ records.old }
 {
     let first = lowest_part(records, width, row, bounds, kinds);
+    let most = bounds.count_from(first);
     let mut joined = Joined {
-        places: Vec::new(alloc),
+        places: Vec::with_capacity(alloc, most.min(PLACES))?,
         sum: Sum::new(alloc, kinds, ROOM)?,
-        most: bounds.count_from(first),
+        most,
     };
     join_parts(records, alloc, width, row, first, kinds, &mut joined)?;
     tried.put_all(&joined.places);
@@ -163,7 +167,8 @@ fn add_wide(
 {
     let counted = row.counted();
     let Joined { places, sum, .. } = joined;
-    let block = Block::new(places, counted, sum.finish(alloc)?);
+    let sum = finish_at(alloc, sum, kinds, records.as_slice(), &places)?;
+    let block = Block::new(places, counted, sum);
     records.add_block(alloc, width, kinds, block)
 }
 
