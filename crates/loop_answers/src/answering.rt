@@ -162,6 +162,7 @@ fn answer_half<V: View>(
     let wanted = Wanted {
         most: turns.share.count,
         all: true,
+        halves: calls,
     };
     let Some(found) = answers(machine, alloc, setting, code, turns, wanted) else {
         return Ok(false);
@@ -208,6 +209,7 @@ pub(crate) fn answer_last<V: View>(
     let wanted = Wanted {
         most: share.count,
         all: false,
+        halves: false,
     };
     let code = loop_code(setting.program, machine.top.procedure(), site);
     let turns = Turns { site, share };
@@ -252,6 +254,7 @@ fn answer_turns<V: View>(
     let wanted = Wanted {
         most: share.count,
         all: false,
+        halves: false,
     };
     let code = loop_code(setting.program, machine.top.procedure(), site);
     let turns = Turns { site, share };

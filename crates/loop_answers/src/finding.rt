@@ -15,8 +15,9 @@ ghost use Rattle.loop_answers.specs.Batches.{instances_in, HasBatches, IsBatchFr
 
 use crate::found::{End, Found, found_so_far};
 use crate::tried::{
-    Ahead, Search, Wanted, begins_at_stale, behind_first, first_ahead, first_number, is_no_use,
-    is_stale_ahead, is_stale_at, keep_tried, most_asked, note_behind, note_stale, tried_in,
+    Ahead, Search, Wanted, begins_at_stale, behind_first, first_ahead, first_number,
+    is_known_ahead, is_no_use, is_stale_at, keep_tried, most_asked, note_behind, note_stale,
+    tried_in,
 };
 use activations::code::LoopCode;
 use activations::setting::Setting;
@@ -42,11 +43,15 @@ const BATCHES: u32 = 2048;
 
 const SINGLES: u32 = 64;
 
+/// Few iterations are those whose number takes so many bits.
+const FEW_BITS: u32 = 6;
+
 /// So many records go together where they can.
 const WIDTH: u32 = 16;
 
-/// There is room for so many batches with the first one: the allocator takes longer for more.
-const FIRST_CAPACITY: u32 = 32;
+/// There is room for so many batches with the first one: the allocator takes longer for more, and hands out what was given back last
+/// where all lists begin alike.
+const FIRST_CAPACITY: usize = 32;
 
 /// Batches that answer a loop's iterations, those from the first on, one after another as far as there are such, at most so many
 /// iterations; none where the loop is over a procedure whose instances aren't recorded, or there is no room to enter them.
@@ -113,7 +118,7 @@ fn note_end(found: &Option<Found<'_>>, numbers: &mut Vec<i64>, search: Search, t
         Some(found) => match found.end {
             End::Through => {
                 let next = first_number(turns).wrapping_add(i64::from(found.count));
-                if found.count < turns.share.count || is_stale_ahead(search.tried, next) {
+                if is_known_ahead(search.tried, next, found.count < turns.share.count) {
                     keep_tried(numbers, search.counted, search.tried);
                     return;
                 }
@@ -149,9 +154,9 @@ fn answers_by<'a, V: View>(
     let depth = depth_of(machine, setting, code, search.wanted)?;
     let from = number_behind(turns.site, turns.share, 0);
     let counted = counted_from(machine, alloc, setting.tables, code, from, search, numbers);
-    let first = first_ahead(search, from, depth, counted);
+    let first = first_ahead(search, from, depth, counted, turns.share.first);
     let is_stale = is_stale(machine, alloc, setting, code, search, first, numbers);
-    let most = most_asked(search, first, is_stale);
+    let mut most = most_asked(search, first, is_stale);
     let mut batches = Vec::new(alloc);
     let mut count = 0;
     let mut singles = 0;
@@ -170,12 +175,14 @@ fn answers_by<'a, V: View>(
         match batch_from(machine, alloc, setting, code, ahead, numbers) {
             Some(batch) => {
                 singles = singles_with(singles, batch);
-                if is_in_vain(setting, search.wanted, ahead, batch, singles) {
+                let asked = most_with(setting, search.wanted, ahead, batch, singles, most);
+                if asked == 0 {
                     return Some(found_so_far(batches, count, End::Elsewhere, near));
                 }
-                if put_batch(&mut batches, batch, most).is_err() {
+                if put_batch(&mut batches, batch).is_err() {
                     return Some(found_so_far(batches, count, End::Elsewhere, near));
                 }
+                most = asked;
                 count += batch.count;
                 near = batch.next;
             }
@@ -190,16 +197,12 @@ fn answers_by<'a, V: View>(
 
 /// Puts a batch behind the others. Room is made with the first one, as most searches that are in vain find none.
 #[inline(always)]
-fn put_batch<'a>(
-    batches: &mut Vec<Batch<'a>>,
-    batch: Batch<'a>,
-    most: u32,
-) -> Result<(), AllocError>
+fn put_batch<'a>(batches: &mut Vec<Batch<'a>>, batch: Batch<'a>) -> Result<(), AllocError>
     ensures pushed { OnOk result (batches.new.items ≡ batches.old.items ++ batch.entry ∷ []) }
     ensures same { OnErr result (batches.new.items ≡ batches.old.items) }
 {
     if batches.is_empty() {
-        let _ = batches.reserve(most.min(FIRST_CAPACITY) as usize);
+        let _ = batches.reserve(FIRST_CAPACITY);
     }
     batches.push(batch)?;
     Ok(())
@@ -294,6 +297,40 @@ fn is_in_vain(
         return false;
     }
     ahead.counted.is_none() || ahead.most >= WIDTH && is_alone(setting, batch)
+}
+
+/// How many iterations are asked for, where that batch is found and so many were: the same, or where it is the first one and alone among many
+/// those of a first half of a first half that are few, as it would be found again for each of these halves; 0 where it is of no use to look
+/// further.
+fn most_with(
+    setting: Setting<'_>,
+    wanted: Wanted,
+    ahead: Ahead,
+    batch: Batch<'_>,
+    singles: u32,
+    most: u32,
+) -> u32
+    requires left { ahead.most ≤ most }
+    requires fits { batch.count ≤ ahead.most }
+    ensures few { result ≤ most }
+    ensures room { (result == 0) ≡ false → (most - ahead.most) + batch.entry.count ≤ result }
+{
+    if !is_in_vain(setting, wanted, ahead, batch, singles) {
+        return most;
+    }
+    if !wanted.halves || ahead.counted.is_none() || ahead.most < most || most <= SINGLES {
+        return 0;
+    }
+    let few = few_of(most);
+    if batch.count <= few { few } else { 0 }
+}
+
+/// As many as there are in the first half of the first half of so many and so on, where these are few.
+fn few_of(most: u32) -> u32
+    ensures few { result ≤ most }
+{
+    let bits = u32::BITS - most.leading_zeros();
+    most.wrapping_shr(bits.saturating_sub(FEW_BITS)).min(most)
 }
 
 /// Whether the record of one instance is part of no block, nor is the one behind it.

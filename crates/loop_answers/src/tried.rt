@@ -6,19 +6,21 @@ use activations::shares::Turns;
 /// Stands behind the arguments and a place where the record of these arguments isn't valid.
 const STALE: i64 = i64::MIN + 13;
 
-/// The number of an iteration, whether its record was found not to be valid, and the place near which that was looked for.
+/// The number of an iteration, whether its record was found not to be valid, and the place near which that was looked for, where it is
+/// known.
 #[derive(Clone, Copy)]
 pub(crate) struct Tried {
     pub(crate) number: i64,
     is_stale: bool,
-    near: usize,
+    near: Option<usize>,
 }
 
-/// How many iterations are asked for at most, and whether fewer are of no use.
+/// How many iterations are asked for at most, whether fewer are of no use, and whether those of a first half are of use even then.
 #[derive(Clone, Copy)]
 pub(crate) struct Wanted {
     pub(crate) most: u32,
     pub(crate) all: bool,
+    pub(crate) halves: bool,
 }
 
 /// A search for iterations that are wanted, the iteration at which one before it ended, where it is known, and which argument is the number.
@@ -40,8 +42,14 @@ pub(crate) struct Ahead {
     pub(crate) near: usize,
 }
 
-/// The iterations that are asked for, from that number on, at that depth.
-pub(crate) fn first_ahead(search: Search, number: i64, depth: u32, counted: Option<usize>) -> Ahead
+/// The iterations that are asked for, from that number on, at that depth, of which the first has that index in its loop.
+pub(crate) fn first_ahead(
+    search: Search,
+    number: i64,
+    depth: u32,
+    counted: Option<usize>,
+    index: u32,
+) -> Ahead
     ensures depth { result.depth ≡ depth }
     ensures counted { result.counted ≡ counted }
 {
@@ -50,7 +58,7 @@ pub(crate) fn first_ahead(search: Search, number: i64, depth: u32, counted: Opti
         most: search.wanted.most,
         depth,
         counted,
-        near: near_of(search.tried, number),
+        near: near_of(search.tried, number, index),
     }
 }
 
@@ -118,8 +126,8 @@ pub(crate) fn tried_in(numbers: &[i64], counted: Option<usize>, count: usize) ->
         number,
         is_stale: mark.copied() == Some(STALE),
         near: match numbers.get(count) {
-            Some(near) => near.cast_unsigned() as usize,
-            None => 0,
+            Some(near) => Some(near.cast_unsigned() as usize),
+            None => None,
         },
     })
 }
@@ -130,7 +138,7 @@ pub(crate) fn keep_tried(numbers: &mut Vec<i64>, counted: Option<usize>, tried: 
         (Some(place), Some(tried)) if place < numbers.len() => {
             numbers[place] = tried.number;
             if tried.is_stale {
-                note_stale(numbers, tried.near);
+                note_stale(numbers, near_at(tried, tried.number));
             }
         }
         _ => {}
@@ -161,21 +169,26 @@ pub(crate) fn note_behind(
     }
 }
 
-/// The place near which the record of the iteration of that number may lie, by the one that was tried.
-fn near_of(tried: Option<Tried>, number: i64) -> usize {
+/// The place near which the record of the iteration of that number may lie, by the one that was tried; else the index of the iteration in
+/// its loop, as the records of the first loop of a session lie.
+fn near_of(tried: Option<Tried>, number: i64, index: u32) -> usize {
     match tried {
-        Some(tried) => {
-            let behind = number.wrapping_sub(tried.number).cast_unsigned();
-            tried.near.wrapping_add(behind as usize)
-        }
-        None => 0,
+        Some(tried) if tried.near.is_some() => near_at(tried, number),
+        _ => index as usize,
     }
 }
 
-/// Whether a record that was tried and found not to be valid is that of the iteration of that number, or of one behind it.
-pub(crate) fn is_stale_ahead(tried: Option<Tried>, number: i64) -> bool {
+/// The place near which the record of the iteration of that number may lie, by that of the one that was tried.
+fn near_at(tried: Tried, number: i64) -> usize {
+    let behind = number.wrapping_sub(tried.number).cast_unsigned();
+    tried.near.unwrap_or(0).wrapping_add(behind as usize)
+}
+
+/// Whether the record that was tried is that of the iteration of that number, or of one behind it, and was found not to be valid, or only
+/// some iterations were asked for because of it.
+pub(crate) fn is_known_ahead(tried: Option<Tried>, number: i64, are_some: bool) -> bool {
     match tried {
-        Some(tried) => tried.is_stale && tried.number >= number,
+        Some(tried) => tried.number >= number && (tried.is_stale || are_some),
         None => false,
     }
 }

@@ -18,7 +18,7 @@ loop-preserved g c =
     let b : Batch = c.in-Some.batch in
     let first = c.args.turns.share.first in
     let low = c.args.turns.site.low in
-    let left = c.most_asked-most.result - c.loop.count in
+    let left = c.loop.most - c.loop.count in
     let items : c.put_batch.new.batches.items ≡ xs ++ b ∷ [] = search rules in
     let v : ℤ = to_z w64 (of_z w64 c.number_behind.result) in
     let at : v ≡ low +ℤ pos (first + c.loop.count) = search rules in
@@ -26,11 +26,15 @@ loop-preserved g c =
     let more : AreBatches S j s.top.slots s.top.left low first (xs ++ b ∷ []) =
     batches_more S j s.top.slots s.top.left low first xs b v left inv.batches one (at ∙ ap (λ n. low +ℤ pos (first + n)) inv.count) in
     let fits : b.count ≤ left = one.few in
-    let before : c.loop.count ≤ c.most_asked-most.result = inv.few in
+    let before : c.loop.count ≤ c.loop.most = inv.few in
+    let gap : c.loop.most - left ≡ c.loop.count = omega (arith, before) in
+    let room : (c.loop.most - left) + b.count ≤ c.most_with-asked.result = c.most_with-asked.ensures.room (search rules) in
+    let less : c.most_with-asked.result ≤ c.loop.most = c.most_with-asked.ensures.few in
     record {
       same = c.batch_from.ensures.unchanged ∙ inv.same;
       known = subst (λ (x : PlainStrand). IfSome c.counted_from-counted.result (λ place. AreArguments c.args.setting.tables.now.tables x.top.slots a.variable (map plain a.arguments.now) c.batch_from.new.numbers.items)) inv.same c.batch_from.ensures.known;
       count = ap (λ n. n + b.count) inv.count ∙ sym (instances_more xs b) ∙ ap instances_in (sym items);
-      few = omega arith;
+      few = omega (arith, room, gap);
+      most = omega (arith, less, inv.most);
       batches = subst (λ (bs : List Batch). AreBatches S j s.top.slots s.top.left low first bs) (sym items) more;
     }

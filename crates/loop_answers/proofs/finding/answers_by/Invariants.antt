@@ -10,5 +10,6 @@ invariant-loop g l = record {
   known : IfSome l.counted (λ place. AreArguments l.setting.tables.now.tables l.fn.machine.top.slots l.code.variable (map plain l.code.arguments.now) l.numbers.items);
   count : l.count ≡ instances_in l.batches.items;
   few : l.count ≤ l.most;
+  most : l.most ≤ l.search.wanted.most;
   batches : AreBatches (lent l.setting) (loop_of l.code) l.fn.machine.top.slots l.fn.machine.top.left l.turns.site.low l.turns.share.first l.batches.items;
 }
