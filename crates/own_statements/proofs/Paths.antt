@@ -14,7 +14,7 @@ use Rattle.linked_program.specs.CodeView.{instruction_at}
 use Rattle.positions.specs.Code.{instruction_inside, blocks_at}
 use Rattle.positions.specs.declared.phase.Phase.TheVariants.{Running, Returning}
 use Rattle.positions.specs.Setting.{Setting}
-use Rattle.positions.specs.Activations.{PlainActivation, outside, inside, first_of, at, next_of}
+use Rattle.positions.specs.Activations.{PlainActivation, outside, outside_by, inside, first_of, at, next_of}
 use Rattle.positions.specs.Layers.{PlainLayer, noting}
 use Rattle.positions.specs.Strands.{PlainStrand}
 use Rattle.positions.specs.Advance.{performed, gone_by, worked, advanced}
@@ -53,6 +53,15 @@ block_found codes a block f depth xs procedure around found index =
 none_inside : (b : Bool) (o : Option Instruction) → o ≡ None → None ≡ (if b then o else None)
 none_inside true o none = sym none
 none_inside false o none = refl
+
+-- an instance in no block, which has nothing left to do, is behind its block
+over_by : (a : PlainActivation) (outer : List Position) (w : Work) → length outer ≡ 0 → w ≡ Over
+    → record a { outer = outer; work = w } ≡ outside_by outer (record a { outer = outer; work = w })
+over_by a [] w none over = ap (λ (v : Work). record a { outer = []; work = v }) over
+over_by a (p ∷ rest) w none over = cc
+
+pub over_outside : (a : PlainActivation) → length a.outer ≡ 0 → a.work ≡ Over → a ≡ outside a
+over_outside a none over = over_by a a.outer a.work none over
 
 module _ (setting : Setting) where
   -- one path behind another

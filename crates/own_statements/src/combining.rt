@@ -84,6 +84,7 @@ fn two_numbers(kind: &Kind, expressions: &[Expression], slots: &[Slot]) -> Optio
 }
 
 /// Combines what the values of whatever expressions name; those of one or two that are as many as the reducer takes need no list.
+#[cold]
 #[inline(never)]
 fn combine_evaluated<V: View>(
     layer: &mut Layer<V>,

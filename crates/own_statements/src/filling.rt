@@ -90,7 +90,27 @@ pub fn fills_turn<V: View>(
         if child.put_number(iterations.size, number) {
             return true;
         }
+        return fills_anew(layer, child, top, iterations, number);
     }
+    fills_meanwhile(layer, child, top, iterations, number)
+}
+
+/// Puts the slots of a loop's iteration in place so, where the instance has another number of them: that is rare.
+#[cold]
+#[inline(never)]
+fn fills_anew<V: View>(
+    layer: &mut Layer<V>,
+    child: &mut Activation,
+    top: &mut Activation,
+    iterations: Iterations<'_>,
+    number: i64,
+) -> bool
+    ensures filled { result ≡ true → Fills
+        (entry_at iterations.entry.tables.now.tables (laid_over (Some (iterations.entry.variable, Slot.Has number)) top.old.slots) iterations.entry.size
+        (map plain iterations.entry.arguments.now)) child.new.slots layer.old layer.new }
+    ensures unchanged { result ≡ false → layer.new ≡ layer.old }
+    ensures top { top.new ≡ top.old }
+{
     fills_meanwhile(layer, child, top, iterations, number)
 }
 

@@ -1,7 +1,7 @@
 //! Runs of an instance over the topmost layer alone, as far as it enters no other instance.
 ghost use Rattle.std.specs.Prelude.{◌≡◌, ◌-◌, true, Bool};
 ghost use Rattle.meaning.specs.Elision.{depth_limit};
-ghost use Rattle.positions.specs.Activations.{made, first_of, at};
+ghost use Rattle.positions.specs.Activations.{made, first_of, at, outside};
 ghost use Rattle.positions.specs.Layers.{PlainLayer, entering};
 ghost use Rattle.activations.specs.Given.{lent};
 ghost use Rattle.own_statements.specs.Paths.{ComesTo};
@@ -191,8 +191,30 @@ fn run_block<'a, V: View>(
             }
         }
     }
-    top.go_outside();
+    go_behind(top);
     ran_to(setting, top)
+}
+
+/// Goes behind the innermost block. Where that is the outermost one, and nothing was left to do before, nothing is written.
+#[inline(always)]
+fn go_behind(top: &mut Activation)
+    ensures outside { top.new ≡ outside top.old }
+{
+    if top.depth() == 0 && is_over(top) {
+        return;
+    }
+    top.go_outside();
+}
+
+/// Whether an instance has nothing left to do.
+#[inline(always)]
+fn is_over(top: &Activation) -> bool
+    ensures over { result ≡ true → top.now.work ≡ Work.Over }
+{
+    match top.work() {
+        Work::Over => true,
+        _ => false,
+    }
 }
 
 /// Where an instance goes on; one that has nothing left gives 0 back.

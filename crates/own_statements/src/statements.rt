@@ -123,6 +123,7 @@ fn bind<V: View>(
 }
 
 /// Puts the value of whatever expression into a slot.
+#[cold]
 #[inline(never)]
 fn bind_evaluated<V: View>(
     layer: &mut Layer<V>,
@@ -194,6 +195,7 @@ fn is_empty(program: &Checked, procedure: usize, block: usize) -> bool
 }
 
 /// Goes into one of two blocks by whatever condition.
+#[cold]
 #[inline(never)]
 fn choose_evaluated<V: View>(
     layer: &mut Layer<V>,
@@ -249,6 +251,7 @@ fn give<V: View>(
 }
 
 /// Gives the value of whatever expression back.
+#[cold]
 #[inline(never)]
 fn give_evaluated<V: View>(
     layer: &mut Layer<V>,

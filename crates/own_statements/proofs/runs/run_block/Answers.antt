@@ -139,8 +139,8 @@ returns-clause-ran g c =
     let past : length xs ≤ index = search rules in
     let found : None ≡ instruction_inside S.codes b.procedure (length b.outer) p =
     sym (slice_get_past xs index past) ∙ c.requires.block index ∙ found_as S.codes c.args.top.now b p c.loop-index.invariant.same.0 c.loop-index.invariant.same.1 in
-    run_join S c.args.passes_syncs a c.args.layer.now c.go_outside.new.self c.loop-index.layer c.ran_to-2.result c.go_outside.new.self c.loop-index.layer
-    (come_out S c.args.passes_syncs a c.args.layer.now p b c.loop-index.layer c.loop-index.invariant.come c.go_outside.new.self found c.go_outside.ensures.outside)
+    run_join S c.args.passes_syncs a c.args.layer.now c.go_behind.new.top c.loop-index.layer c.ran_to-2.result c.go_behind.new.top c.loop-index.layer
+    (come_out S c.args.passes_syncs a c.args.layer.now p b c.loop-index.layer c.loop-index.invariant.come c.go_behind.new.top found c.go_behind.ensures.outside)
     (c.ran_to-2.ensures.runs c.args.passes_syncs c.loop-index.layer)
 
 pub loop-index-preserved-in-Passed : goal.loop-index-preserved-in-Passed
