@@ -43,6 +43,11 @@ CameBy Nowhere same ahead = same
 CameBy Back same ahead = ahead
 CameBy Stays same ahead = ahead
 
+-- where one came back
+abbrev pub OnBack : Came → Type 0 → Type 0
+OnBack Back P = P
+OnBack _ P = Unit {0}
+
 -- ---- children of a strand's topmost instance, in whatever strand
 
 -- a called child goes back to it: the strand doesn't begin in the child, whose layer isn't opened

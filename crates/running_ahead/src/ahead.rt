@@ -1,10 +1,10 @@
 //! Many small steps in one go: those for which no kit is needed. A spawned child is called where it is said so, else it ends them.
-ghost use Rattle.std.specs.Prelude.{◌≡◌};
+ghost use Rattle.std.specs.Prelude.{◌≡◌, true};
 ghost use Rattle.positions.specs.Activations.{ShareFits};
 ghost use Rattle.positions.specs.Setting.{Setting as PlainSetting};
 ghost use Rattle.activations.specs.Given.{lent};
 ghost use Rattle.own_statements.specs.Paths.{phase_by, MayPass};
-ghost use Rattle.running_ahead.specs.Ahead.{IsAhead};
+ghost use Rattle.running_ahead.specs.Ahead.{IsAhead, OnBack};
 
 use crate::came::Came;
 use crate::children::{ends_otherwise, enter_ahead, put_on_top};
@@ -23,6 +23,9 @@ use view_pool::View;
 
 // How many stretches of small steps are done in one go.
 const STRETCHES: u32 = 1024;
+
+// How many stretches of blocks are done before the next one of them is looked for as any other.
+const BLOCKS: u32 = 16;
 
 /// Does small steps of its instances. Where an iteration of a memo procedure is over, and its loop has another one, that is seen at
 /// once.
@@ -129,10 +132,7 @@ fn go_ahead<V: View, S: Spawning>(
     match machine.phase {
         Phase::Entering => enter_alone(machine, setting),
         Phase::Running => match machine.top.work() {
-            Work::Block(_) | Work::Over => {
-                let calls = spawning.is_called();
-                block_ahead(machine, alloc, setting, calls)
-            }
+            Work::Block(_) | Work::Over => blocks_ahead(machine, alloc, setting, spawning),
             Work::Turns(site, share) => loop_ahead(machine, alloc, setting, site, share),
             Work::Halves(site, halvings, share) => {
                 halves_ahead(machine, alloc, setting, site, halvings, share, spawning)
@@ -184,7 +184,33 @@ fn enter_alone<V: View>(machine: &mut Machine<V>, setting: Setting<'_>) -> bool
     }
 }
 
-/// What is left of the topmost instance's blocks; whether spawned children are called in them is said.
+/// What is left of the topmost instance's blocks, and of those of the instance that is topmost then, and so on. Before each it asks
+/// whether spawned children are called.
+#[inline(always)]
+fn blocks_ahead<V: View, S: Spawning>(
+    machine: &mut Machine<V>,
+    alloc: Global,
+    setting: Setting<'_>,
+    spawning: &mut S,
+) -> bool
+    requires running { machine.old.phase ≡ Phase.Running }
+    requires kinds { machine.old.layer.kinds ≡ setting.program.now.kinds }
+    ensures ahead { IsAhead (lent setting.entry) machine.old machine.new }
+    ensures same { spawning.new ≡ spawning.old }
+{
+    for _ in 0..BLOCKS {
+        let calls = spawning.is_called();
+        match block_ahead(machine, alloc, setting, calls) {
+            Came::Nowhere => return false,
+            Came::Back => {}
+            Came::Stays => return true,
+        }
+    }
+    true
+}
+
+/// What is left of the topmost instance's blocks; whether spawned children are called in them is said. Back where the instance that is
+/// topmost then is in a block.
 #[inline(always)]
 #[tactic(auto, using(crate::proofs::Paths::ahead_here, crate::proofs::Paths::ahead_join))]
 fn block_ahead<V: View>(
@@ -192,14 +218,45 @@ fn block_ahead<V: View>(
     alloc: Global,
     setting: Setting<'_>,
     calls: bool,
-) -> bool
+) -> Came
     requires running { machine.old.phase ≡ Phase.Running }
     requires kinds { machine.old.layer.kinds ≡ setting.program.now.kinds }
     ensures ahead { IsAhead (lent setting.entry) machine.old machine.new }
+    ensures running { OnBack result (machine.new.phase ≡ Phase.Running) }
 {
     match statements_ahead(machine, setting) {
-        Some(value) => sync_ahead(machine, value),
+        Some(value) => goes_back(machine, value),
         None => calls_ahead(machine, alloc, setting, calls),
+    }
+}
+
+/// The topmost instance's value goes to the one below it, where no layer is closed: Back where that is in a block.
+#[inline(always)]
+fn goes_back<V: View>(machine: &mut Machine<V>, value: i64) -> Came
+    requires returning { machine.old.phase ≡ Phase.Returning value }
+    ensures ahead { (setting : PlainSetting) → IsAhead setting machine.old machine.new }
+    ensures running { OnBack result (machine.new.phase ≡ Phase.Running) }
+{
+    if !sync_ahead(machine, value) {
+        return Came::Nowhere;
+    }
+    if is_in_block(machine) {
+        return Came::Back;
+    }
+    Came::Stays
+}
+
+/// Whether the topmost instance is within a block.
+#[inline(always)]
+fn is_in_block<V: View>(machine: &Machine<V>) -> bool
+    ensures running { result ≡ true → machine.now.phase ≡ Phase.Running }
+{
+    match machine.phase {
+        Phase::Running => match machine.top.work() {
+            Work::Block(_) => true,
+            _ => false,
+        },
+        _ => false,
     }
 }
 
@@ -261,26 +318,27 @@ fn leave_ahead<V: View>(machine: &mut Machine<V>, value: i64) -> bool
 }
 
 /// Calls the instance that the topmost one's next statement calls, or spawns where that is called; where it has more to do, the one
-/// that its next statement calls, and so on.
+/// that its next statement calls, and so on. Back where one of them came back.
 #[tactic(auto, using(crate::proofs::Paths::ahead_here, crate::proofs::Paths::ahead_join))]
 fn calls_ahead<V: View>(
     machine: &mut Machine<V>,
     alloc: Global,
     setting: Setting<'_>,
     calls: bool,
-) -> bool
+) -> Came
     requires running { machine.old.phase ≡ Phase.Running }
     requires kinds { machine.old.layer.kinds ≡ setting.program.now.kinds }
     ensures ahead { IsAhead (lent setting.entry) machine.old machine.new }
+    ensures running { OnBack result (machine.new.phase ≡ Phase.Running) }
 {
     for _ in 0..DEEPEST {
         match call_ahead(machine, alloc, setting, calls) {
-            Came::Nowhere => return false,
-            Came::Back => return true,
+            Came::Nowhere => return Came::Nowhere,
+            Came::Back => return Came::Back,
             Came::Stays => {}
         }
     }
-    true
+    Came::Stays
 }
 
 /// The topmost instance's next statement, where that calls an instance of a procedure that isn't marked memo, or spawns one that is

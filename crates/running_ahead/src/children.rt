@@ -6,6 +6,7 @@ ghost use Rattle.positions.specs.Strands.{entry_by};
 ghost use Rattle.positions.specs.Tallies.{is_own};
 ghost use Rattle.positions.specs.Advance.{called, evaluated, performed};
 ghost use Rattle.activations.specs.Given.{lent};
+ghost use Rattle.own_statements.specs.Runs.{IsBody};
 ghost use Rattle.small_steps.specs.Steps.{nested_plain};
 ghost use Rattle.running_ahead.specs.Ahead.{GoesAhead, GoesAheadBy, CameBy, is_spawned};
 
@@ -14,6 +15,7 @@ use activations::activation::{Activation, next_of};
 use activations::code::instructions;
 use activations::setting::Setting;
 use activations::spares::Spares;
+use linked_program::checked::Checked;
 use linked_program::code::{Expression, Instruction, Operation};
 use meaning::tree::Way;
 use own_statements::filling::fills;
@@ -35,6 +37,25 @@ struct Callee<'a> {
     arguments: &'a [Expression],
     into: Option<usize>,
     next: Position,
+}
+
+/// What an instance of a procedure begins with: so many slots, and the statements of its body.
+#[derive(Clone, Copy)]
+struct Body<'a> {
+    size: usize,
+    statements: &'a [Instruction],
+}
+
+/// What an instance of that procedure begins with.
+#[inline(always)]
+fn body_of(program: &Checked, procedure: usize) -> Body<'_>
+    ensures size { result.size ≡ slots_of program.now.codes procedure }
+    ensures body { IsBody program.now.codes procedure result.statements.now }
+{
+    Body {
+        size: program.slots(procedure),
+        statements: instructions(program, procedure, 0, 0),
+    }
 }
 
 /// Does the statement at that position, where it calls an instance of a procedure that isn't marked memo, or spawns one that is
@@ -88,13 +109,15 @@ fn enter_by<V: View>(
         (map plain callee.entry.arguments.now) machine.old.top.slots) machine.old machine.new }
     ensures running { machine.new.phase ≡ Phase.Running }
 {
+    // (it is looked up here once, and not wherever a part of it is needed)
+    let body = body_of(setting.program, callee.procedure);
     if setting.program.is_memo(callee.procedure) {
         return Came::Nowhere;
     }
     if is_spawn(callee.way) && !calls {
         return Came::Nowhere;
     }
-    enter_plain_ahead(machine, alloc, setting, statement, callee)
+    enter_plain_ahead(machine, alloc, setting, statement, callee, body)
 }
 
 /// Whether an instance that is entered so is spawned.
@@ -116,9 +139,12 @@ fn enter_plain_ahead<V: View>(
     setting: Setting<'_>,
     statement: u32,
     callee: Callee<'_>,
+    body: Body<'_>,
 ) -> Came
     requires kinds { machine.old.layer.kinds ≡ setting.program.now.kinds }
     requires running { machine.old.phase ≡ Phase.Running }
+    requires size { body.size ≡ slots_of setting.program.now.codes callee.procedure }
+    requires body { IsBody setting.program.now.codes callee.procedure body.statements.now }
     requires plain { memo_of setting.program.now.codes callee.procedure ≡ false }
     ensures ahead { GoesAhead (lent setting.entry)
         (evaluated statement (entry_at setting.entry.tables.now.tables machine.old.top.slots
@@ -126,7 +152,7 @@ fn enter_plain_ahead<V: View>(
         (nested_plain statement callee.entry.way callee.entry.into (Work.Block callee.entry.next) callee.entry.procedure)) machine.old machine.new }
     ensures running { machine.new.phase ≡ Phase.Running }
 {
-    match child_ahead(machine, alloc, setting, callee) {
+    match child_ahead(machine, alloc, setting, callee, body) {
         Came::Nowhere => Came::Nowhere,
         Came::Back => Came::Back,
         Came::Stays => Came::Stays,
@@ -141,9 +167,12 @@ fn child_ahead<V: View>(
     alloc: Global,
     setting: Setting<'_>,
     callee: Callee<'_>,
+    body: Body<'_>,
 ) -> Came
     requires kinds { machine.old.layer.kinds ≡ setting.program.now.kinds }
     requires running { machine.old.phase ≡ Phase.Running }
+    requires size { body.size ≡ slots_of setting.program.now.codes callee.procedure }
+    requires body { IsBody setting.program.now.codes callee.procedure body.statements.now }
     requires plain { memo_of setting.program.now.codes callee.procedure ≡ false }
     ensures came { CameBy result (machine.new ≡ machine.old)
         ((statement : ℕ) → GoesAhead (lent setting.entry)
@@ -162,12 +191,11 @@ fn child_ahead<V: View>(
     if machine.path.reserve(1).is_err() || machine.below.reserve(1).is_err() {
         return Came::Nowhere;
     }
-    let size = setting.program.slots(callee.procedure);
     if !fills(
         &mut machine.layer,
         &mut machine.spares.child,
         &machine.top,
-        size,
+        body.size,
         callee.arguments,
         setting.tables,
     ) {
@@ -176,11 +204,10 @@ fn child_ahead<V: View>(
     machine
         .top
         .wait_at(is_spawn(callee.way), callee.into, callee.next);
-    let body = instructions(setting.program, callee.procedure, 0, 0);
     match call(
         &mut machine.layer,
         setting,
-        body,
+        body.statements,
         callee.procedure,
         left - 1,
         &mut machine.spares.child,

@@ -1,9 +1,10 @@
 //! Iterations of a loop one after another, each of which does its statements by itself.
-ghost use Rattle.std.specs.Prelude.{◌≡◌, ◌≤◌, ◌==◌, false};
-ghost use Rattle.linked_program.specs.CodeView.{memo_of};
+ghost use Rattle.std.specs.Prelude.{◌≡◌, ◌≤◌, ◌==◌, true, false, map};
+ghost use Rattle.linked_program.specs.CodeView.{expression as plain, memo_of};
 ghost use Rattle.positions.specs.Activations.{ShareFits};
 ghost use Rattle.positions.specs.Code.{loop_at};
 ghost use Rattle.activations.specs.Given.{lent, loop_of};
+ghost use Rattle.own_statements.specs.Fills.{IsCounted};
 ghost use Rattle.running_ahead.specs.Ahead.{TurnsTo};
 ghost use Rattle.running_ahead.specs.Chains.{ChainsTo, IsFewer};
 
@@ -104,16 +105,43 @@ pub(crate) fn chain<V: View>(
     ensures fewer { IsFewer turns.share.count result }
     ensures top { top.new ≡ top.old }
 {
+    if is_counted(top, code.variable, code.arguments) {
+        return chain_by::<V, true>(layer, setting, code, turns, top, child, numbers);
+    }
+    chain_by::<V, false>(layer, setting, code, turns, top, child, numbers)
+}
+
+/// Calls that share of a loop's iterations so, where it is said whether they are `counted`: the loop over those that are has no more
+/// in it than they need. It is compiled by itself, so that it has all registers.
+#[inline(never)]
+fn chain_by<V: View, const COUNTED: bool>(
+    layer: &mut Layer<V>,
+    setting: Setting<'_>,
+    code: LoopCode<'_>,
+    turns: Turns,
+    top: &mut Activation,
+    child: &mut Activation,
+    numbers: &mut Vec<i64>,
+) -> Chained
+    requires counted { COUNTED ≡ true → IsCounted top.old.slots code.variable (map plain code.arguments.now) }
+    requires fits { ShareFits turns.site turns.share }
+    requires found { loop_of code ≡ loop_at setting.program.now.codes top.old.procedure turns.site }
+    requires plain { memo_of setting.program.now.codes code.callee ≡ false }
+    requires deep { (top.old.left == 0) ≡ false }
+    requires kinds { layer.old.kinds ≡ setting.program.now.kinds }
+    ensures came { ChainsTo (lent setting.entry) turns.site top.old turns.share.first turns.share.count result layer.old child.new layer.new }
+    ensures fewer { IsFewer turns.share.count result }
+    ensures top { top.new ≡ top.old }
+{
     let left = top.left();
     let size = setting.program.slots(code.callee);
     let body = instructions(setting.program, code.callee, 0, 0);
-    let counted = is_counted(top, code.variable, code.arguments);
     let iterations = Iterations {
         size,
         arguments: code.arguments,
         tables: setting.tables,
         variable: code.variable,
-        counted,
+        counted: COUNTED,
     };
     for done in 0..turns.share.count {
         let number = number_of(turns.site, behind(turns.site, turns.share, done));

@@ -15,8 +15,8 @@ loop-preserved g c = record {
   running = c.call_ahead.ensures.running;
 }
 
-pub returns-in-Nowhere : goal.returns-in-Nowhere
-returns-in-Nowhere g c = record { ahead = ahead_join (lent c.args.setting) c.args.machine.now c.loop.machine c.call_ahead.new.machine c.loop.invariant.ahead c.call_ahead.ensures.ahead }
+pub returns-in-Nowhere-clause-ahead : goal.returns-in-Nowhere-clause-ahead
+returns-in-Nowhere-clause-ahead g c = ahead_join (lent c.args.setting) c.args.machine.now c.loop.machine c.call_ahead.new.machine c.loop.invariant.ahead c.call_ahead.ensures.ahead
 
-pub returns-in-Back : goal.returns-in-Back
-returns-in-Back g c = record { ahead = ahead_join (lent c.args.setting) c.args.machine.now c.loop.machine c.call_ahead.new.machine c.loop.invariant.ahead c.call_ahead.ensures.ahead }
+pub returns-in-Back-clause-ahead : goal.returns-in-Back-clause-ahead
+returns-in-Back-clause-ahead g c = ahead_join (lent c.args.setting) c.args.machine.now c.loop.machine c.call_ahead.new.machine c.loop.invariant.ahead c.call_ahead.ensures.ahead

@@ -31,7 +31,7 @@ returns-in-Some-call-clause-came g c n e =
     let o = entry_at S.tables s.top.slots (slots_of S.codes f) (map expression c.args.callee.arguments.now) in
     let x : PlainStrand = record s { layer = c.fills.new.layer } in
     let is_filled : c.fills.result ≡ true = search rules in
-    let filled : Fills o slots s.layer c.fills.new.layer = subst (λ (k : ℕ). Fills (entry_at S.tables s.top.slots k (map expression c.args.callee.arguments.now)) slots s.layer c.fills.new.layer) c.slots-size.ensures.slots (c.fills.ensures.filled is_filled) in
+    let filled : Fills o slots s.layer c.fills.new.layer = subst (λ (k : ℕ). Fills (entry_at S.tables s.top.slots k (map expression c.args.callee.arguments.now)) slots s.layer c.fills.new.layer) c.requires.size (c.fills.ensures.filled is_filled) in
     let layer : c.fills.new.layer ≡ noting o.notes s.layer = filled.1 in
     let is : x ≡ noted o.notes s = ap (λ (l : PlainLayer). record s { layer = l }) layer in
     let goes = λ (t z : PlainStrand). GoesAhead S (evaluated n (entry_at S.tables z.top.slots (slots_of S.codes f) (map expression c.args.callee.arguments.now)) (nested_plain n way into w f)) z t in
@@ -62,7 +62,7 @@ returns-in-None-clause-came g c n e =
     let o = entry_at S.tables s.top.slots (slots_of S.codes f) (map expression c.args.callee.arguments.now) in
     let x : PlainStrand = record s { layer = c.fills.new.layer } in
     let is_filled : c.fills.result ≡ true = search rules in
-    let filled : Fills o slots s.layer c.fills.new.layer = subst (λ (k : ℕ). Fills (entry_at S.tables s.top.slots k (map expression c.args.callee.arguments.now)) slots s.layer c.fills.new.layer) c.slots-size.ensures.slots (c.fills.ensures.filled is_filled) in
+    let filled : Fills o slots s.layer c.fills.new.layer = subst (λ (k : ℕ). Fills (entry_at S.tables s.top.slots k (map expression c.args.callee.arguments.now)) slots s.layer c.fills.new.layer) c.requires.size (c.fills.ensures.filled is_filled) in
     let layer : c.fills.new.layer ≡ noting o.notes s.layer = filled.1 in
     let is : x ≡ noted o.notes s = ap (λ (l : PlainLayer). record s { layer = l }) layer in
     let goes = λ (t z : PlainStrand). GoesAhead S (evaluated n (entry_at S.tables z.top.slots (slots_of S.codes f) (map expression c.args.callee.arguments.now)) (nested_plain n way into w f)) z t in

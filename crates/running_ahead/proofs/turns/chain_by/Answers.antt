@@ -14,7 +14,7 @@ use Rattle.own_statements.specs.Fills.{Fills, IsCounted}
 use Rattle.own_statements.specs.Paths.{ComesTo}
 use Rattle.running_ahead.specs.Chains.{AreTurns, none, more}
 use Rattle.running_ahead.proofs.Iterations.{is_turn, is_stay}
-use Rattle.running_ahead.proofs.turns.chain.Goals as goal
+use Rattle.running_ahead.proofs.turns.chain_by.Goals as goal
 
 pub loop-done-init : goal.loop-done-init
 loop-done-init g c = record { turns = none; top = refl; kinds = refl }
@@ -22,7 +22,7 @@ loop-done-init g c = record { turns = none; top = refl; kinds = refl }
 pub fills_turn-requires-clause-counted : goal.fills_turn-requires-clause-counted
 fills_turn-requires-clause-counted g c κs within =
     let a = c.args.code in
-    λ t. subst (λ (z : PlainActivation). IsCounted z.slots a.variable (map expression a.arguments.now)) (sym c.loop-done.invariant.top) (c.is_counted-counted.ensures.counted t)
+    λ t. subst (λ (z : PlainActivation). IsCounted z.slots a.variable (map expression a.arguments.now)) (sym c.loop-done.invariant.top) (c.requires.counted t)
 
 pub loop-done-preserved : goal.loop-done-preserved
 loop-done-preserved g c =

@@ -1,7 +1,7 @@
 use Rattle.std.proofs.Common.{◌≡◌}
 use Rattle.activations.specs.Given.{lent}
 use Rattle.running_ahead.specs.Chains.{AreTurns}
-use Rattle.running_ahead.proofs.turns.chain.Given as goal
+use Rattle.running_ahead.proofs.turns.chain_by.Given as goal
 
 abbrev pub invariant-loop-done : goal.invariant-loop-done
 invariant-loop-done g l = record {
