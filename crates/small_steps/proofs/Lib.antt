@@ -5,6 +5,9 @@ pub mod Supplies
 pub mod Refusals
 pub mod Memos
 pub mod Nesting
+pub mod Undone
+pub mod Combining
+pub mod Refused
 pub mod Leaving
 pub mod Turns
 pub mod Padding

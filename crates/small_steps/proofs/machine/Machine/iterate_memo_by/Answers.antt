@@ -1,15 +1,17 @@
-use Rattle.std.proofs.Common.{◌≡◌, ◌∙◌, ap, map, subst, None, Some}
+use Rattle.std.proofs.Common.{◌≡◌, ◌∙◌, length, ap, map, refl, subst, None, Some}
 use Rattle.meaning.specs.declared.tree.Way.TheVariants.{Call}
 use Rattle.linked_program.specs.CodeView.{expression as plain}
 use Rattle.evaluation.specs.Values.{values_at}
 use Rattle.positions.specs.declared.work.Work.TheVariants.{Turns}
 use Rattle.positions.specs.Code.{PlainLoop}
+use Rattle.positions.specs.Strands.{PlainStrand}
 use Rattle.positions.specs.Advance.{evaluated, nested_memo, rest_of, turn_slots}
 use Rattle.small_steps.specs.Ends.{Evaluates}
 use Rattle.activations.specs.Given.{lent, loop_of}
 use Rattle.small_steps.specs.Steps.{GivesNone}
 use Rattle.small_steps.proofs.Nesting.{evaluated_some, evaluated_none}
-use Rattle.small_steps.proofs.Supplies.{holds_as, kits_stay}
+use Rattle.small_steps.proofs.Supplies.{either_way, holds_as, kits_stay}
+use Rattle.small_steps.proofs.Undone.{goes_on_above, is_faulted, is_valued, kits_between}
 use Rattle.small_steps.proofs.machine.Machine.iterate_memo_by.Goals as goal
 
 pub returns-in-Ok-clause-turned : goal.returns-in-Ok-clause-turned
@@ -35,3 +37,40 @@ returns-in-None-clause-kits g c =
     kits_stay g.K.KitSource.fits g.K.KitSource.gives g.K.KitSource.free g.K.KitSource.total c.args.setting.program.now.kinds c.args.kits.now s.lower c.turn_values.new.self.lower c.requires.supplied.given
     (evaluated_none {B = Unit {0}} (λ u. c.turn_values.new.numbers.items) j.number out s c.turn_values.new.self
     (subst (λ r. Evaluates (λ u. c.turn_values.new.numbers.items) j.number out s c.turn_values.new.self r) c.in-None.is c.in_ok-turn_values.ensures.evaluated))
+
+pub returns-in-None-clause-turned : goal.returns-in-None-clause-turned
+returns-in-None-clause-turned g c =
+    let s = c.args.self.now in
+    let j : PlainLoop = loop_of c.args.code in
+    let out = values_at c.args.setting.tables.now.tables (turn_slots j c.args.turns.site c.args.turns.share s) (map plain c.args.code.arguments.now) in
+    either_way (g.K.KitSource.lacks c.args.kits.now) (GivesNone g.K.KitSource.gives c.args.kits.now)
+    (λ kit. c.turn_values.new.self ≡ evaluated j.number out (nested_memo (lent c.args.setting) kit j.number Call None (Turns c.args.turns.site (rest_of c.args.turns.share)) j.callee) s)
+    (λ kit. is_faulted {B = Unit {0}} (λ u. c.turn_values.new.numbers.items) j.number out s c.turn_values.new.self c.in_ok-turn_values.field-0 c.in_ok-turn_values.ensures.evaluated
+    (nested_memo (lent c.args.setting) kit j.number Call None (Turns c.args.turns.site (rest_of c.args.turns.share)) j.callee) c.in-None.is)
+
+pub returns-in-Ok-clause-kits : goal.returns-in-Ok-clause-kits
+returns-in-Ok-clause-kits g c =
+    let s = c.args.self.now in
+    let j : PlainLoop = loop_of c.args.code in
+    let out = values_at c.args.setting.tables.now.tables (turn_slots j c.args.turns.site c.args.turns.share s) (map plain c.args.code.arguments.now) in
+    let above = goes_on_above {B = Unit {0}} (λ u. c.turn_values.new.numbers.items) j.number out s c.turn_values.new.self c.in_ok-turn_values.field-0 c.in_ok-turn_values.ensures.evaluated c.in-Some.field-0 c.in-Some.is in
+    kits_between g.K.KitSource c.args.setting.program.now.kinds c.args.kits.now c.nest_memo.new.kits s c.turn_values.new.self c.nest_memo.new.self c.nest_memo.new.self above refl c.nest_memo.ensures.kits
+
+pub returns-in-Err-clause-kits : goal.returns-in-Err-clause-kits
+returns-in-Err-clause-kits g c =
+    let s = c.args.self.now in
+    let j : PlainLoop = loop_of c.args.code in
+    let out = values_at c.args.setting.tables.now.tables (turn_slots j c.args.turns.site c.args.turns.share s) (map plain c.args.code.arguments.now) in
+    let above = goes_on_above {B = Unit {0}} (λ u. c.turn_values.new.numbers.items) j.number out s c.turn_values.new.self c.in_ok-turn_values.field-0 c.in_ok-turn_values.ensures.evaluated c.in-Some.field-0 c.in-Some.is in
+    kits_between g.K.KitSource c.args.setting.program.now.kinds c.args.kits.now c.nest_memo.new.kits s c.turn_values.new.self c.nest_memo.new.self c.forget.new.self above
+    (ap (λ (u : PlainStrand). u.lower) c.forget.ensures.forgotten) c.nest_memo.ensures.kits
+
+pub returns-in-Err-clause-refused : goal.returns-in-Err-clause-refused
+returns-in-Err-clause-refused g c =
+    let s = c.args.self.now in
+    let j : PlainLoop = loop_of c.args.code in
+    let out = values_at c.args.setting.tables.now.tables (turn_slots j c.args.turns.site c.args.turns.share s) (map plain c.args.code.arguments.now) in
+    let count : c.readings-before.result ≡ length s.layer.notes =
+    subst (λ (z : PlainStrand). c.readings-before.result ≡ length z.layer.notes) c.self.view_is c.readings-before.ensures.count in
+    is_valued {B = Unit {0}} (λ u. c.turn_values.new.numbers.items) j.number out s c.turn_values.new.self c.in_ok-turn_values.field-0 c.in_ok-turn_values.ensures.evaluated c.in-Some.field-0 c.nest_memo.new.self
+    c.forget.new.self c.readings-before.result c.in-Some.is count c.in-Err.ensures.refused c.forget.ensures.forgotten
