@@ -7,3 +7,7 @@ pub mod ChainedHalves
 pub mod Stacked
 pub mod HalvesAtOnce
 pub mod Levels
+pub mod Stepping
+pub mod LeafSteps
+pub mod LeafChains
+pub mod Kept

@@ -1,2 +1,4 @@
 pub mod Ahead
 pub mod Chains
+pub mod Stepped
+pub mod Leaves

@@ -1,0 +1,168 @@
+//! One iteration of a loop over a memo procedure, done in a layer of its own that becomes a record at once.
+ghost use Rattle.std.specs.Prelude.{◌≡◌, ◌∷◌, ◌-◌, [], true, false, Some, All, IfOk, IfSome, OnErr, OnOk, length};
+ghost use Rattle.monoid_laws.specs.Kinds.{IsMonoid};
+ghost use Rattle.meaning.specs.Elision.{depth_limit};
+ghost use Rattle.record_theory.specs.Named.{HaveValues};
+ghost use Rattle.evaluation.specs.Slots.{slots_for};
+ghost use Rattle.positions.specs.declared.work.Work.TheVariants.{Block};
+ghost use Rattle.positions.specs.Activations.{made, first_of};
+ghost use Rattle.positions.specs.Layers.{blank, covered, entering};
+ghost use Rattle.positions.specs.Tallies.{opening, closing};
+ghost use Rattle.activations.specs.Given.{lent};
+ghost use Rattle.own_statements.specs.Paths.{ComesTo};
+ghost use Rattle.own_statements.specs.Runs.{IsBody};
+ghost use Rattle.running_ahead.specs.Leaves.{IsLeaf, IsRefusedLeaf, opened_by, plain_leaf};
+
+use activations::activation::Activation;
+use activations::setting::Setting;
+use layers::layer::Layer;
+use layers::recording::Opened;
+use layers::tally::Tally;
+use linked_program::checked::Checked;
+use linked_program::code::Instruction;
+use own_statements::runs::call;
+use small_steps::machine::Machine;
+use std::alloc::{AllocError, Global};
+use std::mem;
+use view_pool::{Kit, View};
+
+/// An iteration of a loop whose only argument is its number: as an instance of that procedure, which has so many slots, so many levels
+/// below it and a name so long, and does these statements.
+#[derive(Clone, Copy)]
+pub(crate) struct Leaf<'a> {
+    pub(crate) callee: usize,
+    pub(crate) size: usize,
+    pub(crate) left: u32,
+    pub(crate) depth: usize,
+    pub(crate) number: i64,
+    pub(crate) body: &'a [Instruction],
+}
+
+/// The statements of an iteration over its own layer; the value that it gives back, if it does them all by itself.
+#[inline(always)]
+fn value_of<V: View>(
+    own: &mut Layer<V>,
+    setting: Setting<'_>,
+    leaf: Leaf<'_>,
+    child: &mut Activation,
+    numbers: &mut Vec<i64>,
+) -> Option<i64>
+    requires body { IsBody setting.program.now.codes leaf.callee leaf.body.now }
+    requires kinds { own.old.kinds ≡ setting.program.now.kinds }
+    ensures came { IfSome result (λ v. ComesTo (lent setting.entry) true
+        (made leaf.entry.callee (slots_for leaf.entry.size (leaf.entry.number ∷ [])) (Block (first_of 0)) leaf.entry.left)
+        (entering leaf.entry.callee (depth_limit - leaf.entry.left) own.old) (Some v) child.new own.new) }
+    ensures kinds { own.new.kinds ≡ own.old.kinds }
+{
+    if !child.put_number(leaf.size, leaf.number) {
+        return None;
+    }
+    call(
+        own,
+        setting,
+        leaf.body,
+        leaf.callee,
+        leaf.left,
+        child,
+        numbers,
+    )
+}
+
+/// An iteration is over with that value: its layer becomes a record and goes onto the loop's. Whether that was done; where it wasn't,
+/// nothing has changed. Where memory is refused meanwhile, the loop's layer has other values.
+#[inline(always)]
+fn close<V: View>(
+    own: &mut Layer<V>,
+    layer: &mut Layer<V>,
+    tally: &mut Tally,
+    alloc: Global,
+    program: &Checked,
+    leaf: Leaf<'_>,
+    value: i64,
+) -> Result<bool, AllocError>
+    requires kinds { own.old.kinds ≡ program.now.kinds }
+    requires same_kinds { layer.old.kinds ≡ own.old.kinds }
+    requires monoids { All IsMonoid layer.old.kinds }
+    ensures closed { IfOk result (λ done. done ≡ true → tally.new
+        ≡ closing program.now.revisions own.old value (opening (opened_by (plain_leaf leaf.entry)) tally.old)) }
+    ensures covered { IfOk result (λ done. done ≡ true → layer.new ≡ covered layer.old own.old) }
+    ensures same_tally { IfOk result (λ done. done ≡ false → tally.new ≡ tally.old) }
+    ensures same_layer { IfOk result (λ done. done ≡ false → layer.new ≡ layer.old) }
+    ensures opened { OnErr result (tally.new ≡ opening (opened_by (plain_leaf leaf.entry)) tally.old) }
+    ensures kinds { layer.new.kinds ≡ layer.old.kinds }
+    ensures own_kinds { own.new.kinds ≡ own.old.kinds }
+    ensures values { HaveValues own.old.kinds tally.old.made → HaveValues own.old.kinds tally.new.made }
+{
+    let Ok(opened) = Opened::new(alloc, leaf.callee, &[leaf.number], leaf.left, leaf.depth) else {
+        return Ok(false);
+    };
+    if tally.open(opened).is_err() {
+        return Ok(false);
+    }
+    match tally.close(alloc, own, layer, value, program) {
+        Ok(()) => Ok(true),
+        Err(error) => Err(error),
+    }
+}
+
+/// An iteration in a layer of that kit, which is given back. Whether it was done; where it wasn't, nothing has changed. Where memory is
+/// refused when the layer becomes a record, that stays above the loop's, which has other values.
+#[inline(always)]
+pub(crate) fn record_leaf<V: View>(
+    machine: &mut Machine<V>,
+    alloc: Global,
+    setting: Setting<'_>,
+    leaf: Leaf<'_>,
+    kit: Kit<V>,
+) -> Result<(bool, Kit<V>), AllocError>
+    requires body { IsBody setting.program.now.codes leaf.callee leaf.body.now }
+    requires kit { kit ≡ setting.program.now.kinds }
+    requires kinds { machine.old.layer.kinds ≡ setting.program.now.kinds }
+    requires monoids { All IsMonoid setting.program.now.kinds }
+    ensures leaf { IfOk result (λ done. done.0 ≡ true → IsLeaf (lent setting.entry) (plain_leaf leaf.entry)
+        machine.old.layer machine.old.tally machine.new.layer machine.new.tally) }
+    ensures others { IfOk result (λ done. done.0 ≡ true
+        → machine.new ≡ record machine.old { layer = machine.new.layer; tally = machine.new.tally }) }
+    ensures same { IfOk result (λ done. done.0 ≡ false → machine.new ≡ machine.old) }
+    ensures kit { IfOk result (λ done. done.1 ≡ setting.entry.program.now.kinds) }
+    ensures refused { OnErr result (IsRefusedLeaf machine.old machine.new) }
+    ensures kinds { machine.new.layer.kinds ≡ machine.old.layer.kinds }
+    ensures values { HaveValues setting.entry.program.now.kinds machine.old.tally.made
+        → HaveValues setting.entry.program.now.kinds machine.new.tally.made }
+{
+    if machine.lower.reserve(1).is_err() {
+        return Ok((false, kit));
+    }
+    let count = setting.program.codes().len();
+    let (notes, flags, used) = match machine.lists.take(alloc, count) {
+        Ok(lists) => lists,
+        Err(_) => return Ok((false, kit)),
+    };
+    let mut own = Layer::in_lists(alloc, kit, true, count, notes, flags, used);
+    let Some(value) = value_of(
+        &mut own,
+        setting,
+        leaf,
+        &mut machine.spares.child,
+        &mut machine.numbers,
+    ) else {
+        return Ok((false, own.close_in(&mut machine.lists)));
+    };
+    match close(
+        &mut own,
+        &mut machine.layer,
+        &mut machine.tally,
+        alloc,
+        setting.program,
+        leaf,
+        value,
+    ) {
+        Ok(done) => Ok((done, own.close_in(&mut machine.lists))),
+        Err(error) => {
+            machine
+                .lower
+                .push_reserved(mem::replace(&mut machine.layer, own));
+            Err(error)
+        }
+    }
+}

@@ -1,0 +1,88 @@
+//! Iterations one after another, each of which is recorded at once.
+ghost use Rattle.std.specs.Prelude.{◌≡◌, ◌≤◌, ◌==◌, [], true, false, All, IfOk, OnErr, OnOk, map};
+ghost use Rattle.monoid_laws.specs.Kinds.{IsMonoid};
+ghost use Rattle.linked_program.specs.CodeView.{expression as plain, memo_of};
+ghost use Rattle.record_theory.specs.Named.{HaveValues};
+ghost use Rattle.positions.specs.Activations.{ShareFits};
+ghost use Rattle.positions.specs.Code.{loop_at};
+ghost use Rattle.activations.specs.Given.{lent, loop_of};
+ghost use Rattle.activations.specs.Turned.{turned_by};
+ghost use Rattle.own_statements.specs.Fills.{IsCounted};
+ghost use Rattle.running_ahead.specs.Leaves.{IsRefusedLeaf, RecordsTo, arguments_then};
+
+use crate::leaf::{Leaf, record_leaf};
+use activations::code::{LoopCode, instructions};
+use activations::setting::Setting;
+use activations::shares::{behind, number_of};
+use positions::work::{Loop, Share, Work};
+use small_steps::machine::Machine;
+use std::alloc::{AllocError, Global};
+use view_pool::{Kit, View};
+
+/// So many of the first iterations of a share of a loop's, whose instances have names so long.
+#[derive(Clone, Copy)]
+pub(crate) struct Stretch {
+    pub(crate) site: Loop,
+    pub(crate) share: Share,
+    pub(crate) most: u32,
+    pub(crate) depth: usize,
+}
+
+/// Records a stretch of iterations one after another, each in a layer of that kit, as far as they do their statements by themselves; how
+/// many were recorded, and the kit. The loop's instance doesn't learn of them. Where memory is refused when a layer becomes a record, that
+/// stays above the loop's, of which nothing is claimed but its kinds.
+pub(crate) fn record_chain<V: View>(
+    machine: &mut Machine<V>,
+    alloc: Global,
+    setting: Setting<'_>,
+    code: LoopCode<'_>,
+    stretch: Stretch,
+    kit: Kit<V>,
+) -> Result<(u32, Kit<V>), AllocError>
+    requires fits { ShareFits stretch.site stretch.share }
+    requires there { machine.old.top.work ≡ Work.Turns stretch.site stretch.share }
+    requires some { stretch.most ≤ stretch.share.count }
+    requires found { loop_of code ≡ loop_at setting.program.now.codes machine.old.top.procedure stretch.site }
+    requires memo { memo_of setting.program.now.codes code.callee ≡ true }
+    requires deep { (machine.old.top.left == 0) ≡ false }
+    requires counted { IsCounted machine.old.top.slots code.variable (map plain code.arguments.now) }
+    requires no_records { setting.records.now ≡ [] }
+    requires kit { kit ≡ setting.program.now.kinds }
+    requires kinds { machine.old.layer.kinds ≡ setting.program.now.kinds }
+    requires monoids { All IsMonoid setting.program.now.kinds }
+    ensures records { IfOk result (λ done. RecordsTo (lent setting.entry) stretch.depth
+        machine.old.top machine.old.layer machine.old.tally machine.old.arguments
+        (turned_by done.0 stretch.site stretch.share machine.old.top) machine.new.layer machine.new.tally
+        (arguments_then done.0 stretch.site stretch.share machine.old.arguments)) }
+    ensures others { OnOk result
+        (machine.new ≡ record machine.old { layer = machine.new.layer; tally = machine.new.tally }) }
+    ensures opened { OnOk result (machine.new.tally.opened ≡ machine.old.tally.opened) }
+    ensures some { IfOk result (λ done. done.0 ≤ stretch.most) }
+    ensures kit { IfOk result (λ done. done.1 ≡ setting.entry.program.now.kinds) }
+    ensures refused { OnErr result (IsRefusedLeaf machine.old machine.new) }
+    ensures kinds { machine.new.layer.kinds ≡ machine.old.layer.kinds }
+    ensures values { HaveValues setting.entry.program.now.kinds machine.old.tally.made
+        → HaveValues setting.entry.program.now.kinds machine.new.tally.made }
+{
+    let callee = code.callee;
+    let size = setting.program.slots(callee);
+    let left = machine.top.left() - 1;
+    let body = instructions(setting.program, callee, 0, 0);
+    let mut kit = kit;
+    for done in 0..stretch.most {
+        let leaf = Leaf {
+            callee,
+            size,
+            left,
+            depth: stretch.depth,
+            number: number_of(stretch.site, behind(stretch.site, stretch.share, done)),
+            body,
+        };
+        match record_leaf(machine, alloc, setting, leaf, kit) {
+            Ok((true, back)) => kit = back,
+            Ok((false, back)) => return Ok((done, back)),
+            Err(error) => return Err(error),
+        }
+    }
+    Ok((stretch.most, kit))
+}
