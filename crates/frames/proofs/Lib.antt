@@ -4,3 +4,4 @@ pub mod Names
 pub mod Whole
 pub mod Traces
 pub mod Replays
+pub mod Stepping

@@ -8,5 +8,6 @@ mod ending;
 mod joining;
 mod moves;
 mod places;
+mod recording;
 pub mod strand;
 mod waiting;

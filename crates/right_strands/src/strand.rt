@@ -7,8 +7,9 @@ ghost use Rattle.positions.specs.Moves.{inlined, detached, attached, resumed, st
 ghost use Rattle.positions.specs.Simulation.{IsFirst, place_of};
 ghost use Rattle.answered_loops.specs.Ways.{IsWay};
 ghost use Rattle.strand_moves.specs.Joins.{HasFault};
-ghost use Rattle.small_steps.specs.Steps.{HoldsFor};
+ghost use Rattle.small_steps.specs.Steps.{GivesNone, HoldsFor};
 ghost use Rattle.activations.specs.Waiting.{leaves_none};
+ghost use Rattle.running_ahead.specs.Stepped.{IsStepped};
 ghost use Rattle.right_strands.specs.Rightness.{FitsHere, IsRightStrand, WasDetached};
 
 use crate::run::{Run, Scene};
@@ -167,6 +168,43 @@ impl<J: Run, V: View> RightStrand<J, V> {
             .answer_ahead(alloc, scene.program, scene.tables, scene.records, calls)
         {
             Ok(done) => Ok(done),
+            Err(error) => {
+                self.failed = true;
+                Err(error)
+            }
+        }
+    }
+
+    /// Where a loop over a memo procedure is next, and there are no records yet: does its next iterations in one go, as many as do all of
+    /// their statements by themselves, each in a layer of its own that becomes a record. A kit is taken for that, and given back. Where
+    /// memory is refused the strand has failed.
+    #[inline(always)]
+    pub fn record_ahead<K: KitSource<Kit<V>>>(
+        &mut self,
+        alloc: Global,
+        scene: &Scene<'_, J>,
+        kits: &mut K,
+    ) -> Result<(), AllocError>
+        requires given_kinds { (k : List Kind) → K.gives k kits.old → k ≡ J.setting.kinds }
+        requires fits { K.fits J.setting.kinds kits.old }
+        ensures steps { OnOk result (IsStepped J.setting self.old.strand self.new.strand) }
+        ensures going { OnOk result (self.new.failed ≡ self.old.failed) }
+        ensures failed { OnErr result (self.new.failed ≡ true) }
+        ensures lower { OnOk result (self.new.strand.lower ≡ self.old.strand.lower) }
+        // No kit is lost, where there is room for all of them.
+        ensures kits { suc (length self.old.strand.lower) + K.free kits.old ≤ K.total kits.old
+            → length self.new.strand.lower + K.free kits.new
+            ≡ length self.old.strand.lower + K.free kits.old }
+        ensures total { K.total kits.new ≡ K.total kits.old }
+        ensures fitting { (k : List Kind) → K.fits k kits.old → K.fits k kits.new }
+        ensures given_kinds { (k : List Kind) → K.gives k kits.new → k ≡ J.setting.kinds }
+        ensures without_kit { GivesNone K.gives kits.old → self.new.strand ≡ self.old.strand }
+    {
+        match self
+            .strand
+            .record_ahead(alloc, scene.program, scene.tables, scene.records, kits)
+        {
+            Ok(()) => Ok(()),
             Err(error) => {
                 self.failed = true;
                 Err(error)
