@@ -96,7 +96,6 @@ pub fn fills_turn<V: View>(
 }
 
 /// Puts the slots of a loop's iteration in place so, where the instance has another number of them: that is rare.
-#[cold]
 #[inline(never)]
 fn fills_anew<V: View>(
     layer: &mut Layer<V>,

@@ -1,6 +1,6 @@
 -- A small step leaves a strand's lowest instance, and where the strand begins.
 use Rattle.std.proofs.Common.{◌≡◌, ℕ, ◌+◌, ◌-◌, ◌==◌, ℤ, pos, Bool, true, false, ◌||◌, if◌then◌else◌, List, [], ◌∷◌, length, map, Option, Some, None, Result, Ok, Err, refl, sym, ap, ◌∙◌}
-use Rattle.std.specs.Prelude.{nat_le, slice_get}
+use Rattle.std.specs.Prelude.{nat_le, slice_get, OnOk}
 use Rattle.meaning.specs.declared.tree.Way.{Way}
 use Rattle.meaning.specs.declared.tree.Way.TheVariants.{Call, Spawn}
 use Rattle.monoid_laws.specs.declared.Kind.{Kind}
@@ -30,6 +30,8 @@ use Rattle.positions.specs.Strands.{PlainStrand, is_entry}
 use Rattle.positions.specs.Advance.{with_top, noted, answered, evaluated, recalled, answer_for, started_as, started_by, pushed, child_of, with_arguments, entered, nested, nested_memo, called_as, binding, if_named, combining, choosing, looping, giving, left_of, right_of, split, second_half, turn_slots, rest_of, turn_by, left_to, closed, owns_top, synced, performed, gone_by, worked, advanced_at, advanced}
 use Rattle.stealing_deques.specs.declared.entry.Spot.{Spot}
 use Rattle.answered_loops.specs.Ways.{IsWay, here, on, as_call}
+use Rattle.running_ahead.specs.Stepped.{IsStepped}
+use Rattle.running_ahead.specs.Stepped as stepped
 use Rattle.stealing_deques.specs.Order.{spot}
 use Rattle.worker_seats.specs.Spots.{numbers_of, lowest_name, spot_of}
 use Rattle.threaded_driver.proofs.Names.{under, above}
@@ -151,3 +153,12 @@ pub stays_way : (setting : Setting) (s t : PlainStrand) → IsWay setting s t �
 stays_way setting s t here = refl
 stays_way setting s t (on u v p e) = ap spot_of (e false) ∙ stays setting false u ∙ stays_way setting s u p
 stays_way setting s t (as_call u v p spawn e) = ap spot_of e ∙ stays_way setting s u p
+
+-- and many where a kit is free
+pub stays_steps : (setting : Setting) (s t : PlainStrand) → IsStepped setting s t → spot_of t ≡ spot_of s
+stays_steps setting s t stepped.here = refl
+stays_steps setting s t (stepped.on u v p e) = ap spot_of e ∙ stays setting true u ∙ stays_steps setting s u p
+
+pub stays_on : {A E : Type 0} (r : Result A E) (setting : Setting) (s t : PlainStrand) → OnOk r (IsStepped setting s t) → OnOk r (spot_of t ≡ spot_of s)
+stays_on (Ok a) setting s t h = stays_steps setting s t h
+stays_on (Err e) setting s t h = tt

@@ -1,4 +1,4 @@
-use Rattle.std.proofs.Common.{rules, ◌≡◌, [], length}
+use Rattle.std.proofs.Common.{rules, ◌≡◌, length}
 use Rattle.positions.specs.declared.work.Work.TheVariants.{Over}
 use Rattle.own_statements.proofs.Paths.{over_outside}
 use Rattle.own_statements.proofs.runs.go_behind.Goals as goal
