@@ -1,5 +1,8 @@
-//! The number of a record's readings that the tables don't hold, and how deep a record may answer.
+//! The number of a record's readings that the tables don't hold, how deep a record may answer, between which rows it has read, and which
+//! of two records is kept.
 #![tactic(auto)]
 
+pub mod bringing;
 pub mod depths;
+pub mod rows;
 pub mod stale;

@@ -1,6 +1,6 @@
 // A list of records that becomes that of a session: of those of one procedure and arguments the last is kept, where the first stands.
 ghost use Rattle.std.specs.Prelude.{◌≡◌, ◌<◌, ◌≤◌, ◌+◌, [], length, take, drop, map, Some, slice_get};
-ghost use Rattle.std.specs.List.{position_or_len, SwappedAt};
+ghost use Rattle.std.specs.List.{position_or_len};
 ghost use Rattle.meaning.specs.Tables.{Tables as PlainTables};
 ghost use Rattle.record_theory.specs.Record.{PlainRecord, same_instance, instance_number, as_made};
 ghost use Rattle.record_theory.specs.InStep.{IsInStep, ReadNow};
@@ -10,6 +10,7 @@ use crate::listing::place_for;
 use instance_records::record::Record;
 use place_chains::mixing::number_of;
 use place_chains::places::Places;
+use record_numbers::bringing::bring;
 
 /// Has the list hold what its records come to that are put in one after another, where there are no others: those that are kept are
 /// moved to its front. It takes no memory.
@@ -123,17 +124,4 @@ fn move_to(
     }
     places.push(number);
     kept + 1
-}
-
-// Swaps two places, unless they are one: most records stay where they are, and aren't written.
-#[inline(always)]
-fn bring(list: &mut [Record], place: usize, next: usize)
-    requires within { next < length list.old }
-    requires place { place ≤ next }
-    ensures swapped { SwappedAt list.old list.new place next }
-    ensures length { length list.new ≡ length list.old }
-{
-    if place < next {
-        list.swap(place, next);
-    }
 }
