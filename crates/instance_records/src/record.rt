@@ -18,8 +18,8 @@ use crate::short_list::ShortList;
 use input_tables::Tables;
 use linked_program::checked::Checked;
 use monoid_laws::Val;
-use record_numbers::depths::fits;
 use record_numbers::stale::is_fresh;
+use record_theory::validity::{are_current, is_allowed, is_valid};
 use std::hash::{Hash, Hasher};
 use std::marker::Model;
 
@@ -192,7 +192,13 @@ impl Record {
         requires counted { is_counted tables.now.tables (numbered_by number self.now) ≡ true }
         ensures valid { result ≡ record_valid program.now.revisions tables.now.tables depth self.now }
     {
-        self.agrees(number, tables) && self.is_allowed(depth, program)
+        is_valid(
+            self.agrees(number, tables),
+            self.entered(),
+            self.height,
+            depth,
+            program,
+        )
     }
 
     /// Whether the procedures entered are as they were, and an instance at that depth with as many nested in it stays within the
@@ -201,28 +207,7 @@ impl Record {
         ensures allowed { result ≡ (every (has_revision program.now.revisions) self.now.entered
             && nat_le (depth + self.now.height) (suc depth_limit)) }
     {
-        are_current(self.entered(), program) && fits(depth, self.height)
-    }
-}
-
-// Whether these procedures have these revision numbers.
-fn are_current(entered: &[(usize, u64)], program: &Checked) -> bool
-    ensures current { result ≡ every (has_revision program.now.revisions) entered.now }
-{
-    for entry in entered {
-        if !is_current(entry.0, entry.1, program) {
-            return false;
-        }
-    }
-    true
-}
-
-fn is_current(procedure: usize, revision: u64, program: &Checked) -> bool
-    ensures current { result ≡ has_revision program.now.revisions (procedure, revision) }
-{
-    match program.revision_at(procedure) {
-        Some(now) => now == revision,
-        None => false,
+        is_allowed(self.entered(), self.height, depth, program)
     }
 }
 

@@ -8,6 +8,7 @@ ghost use Rattle.instance_records.specs.Spans.{span_of, has_row, covers, lies_in
 
 use evaluation::note::Note;
 use evaluation::reading::Reading;
+use record_numbers::rows::rows_of_both;
 use std::alloc::AllocError;
 use std::slice;
 
@@ -61,11 +62,12 @@ impl Span {
     fn joined(&self, other: &Span) -> Span
         ensures joined { result ≡ joined self.now other.now }
     {
+        let (low, high) = rows_of_both(self.low, self.high, other.low, other.high);
         Span {
             table: self.table,
             whole: self.whole || other.whole,
-            low: self.low.min(other.low),
-            high: self.high.max(other.high),
+            low,
+            high,
         }
     }
 

@@ -10,6 +10,7 @@ use crate::readings::Node;
 use evaluation::note::Note;
 use evaluation::reading::Reading;
 use input_tables::Tables;
+use record_theory::agreement::reads_agree;
 use std::alloc::AllocError;
 use std::sync::Arc;
 
@@ -70,36 +71,4 @@ pub(crate) fn put_own(own: &[Reading], notes: &mut Vec<Note>) -> Result<(), Allo
         notes.push(reading.note())?;
     }
     Ok(())
-}
-
-/// Whether the tables hold what was read.
-pub(crate) fn reads_agree(reads: &[Reading], tables: &Tables) -> bool
-    ensures agree { result ≡ every (note_agrees tables.now.tables) (map note_of reads.now) }
-{
-    for reading in reads {
-        if !agrees(&reading.note(), tables) {
-            return false;
-        }
-    }
-    true
-}
-
-fn agrees(note: &Note, tables: &Tables) -> bool
-    ensures agrees { result ≡ note_agrees tables.now.tables note.now }
-{
-    match note {
-        Note::Cell {
-            table,
-            row,
-            column,
-            value,
-        } => tables.cell(*table, *row, *column) == Some(*value),
-        Note::Has { table, row, found } => tables.has(*table, *row) == *found,
-        Note::Limit { table, value } => tables.limit(*table) == *value,
-        Note::Sum {
-            table,
-            column,
-            value,
-        } => tables.sum(*table, *column) == *value,
-    }
 }
