@@ -2,8 +2,7 @@
 use Rattle.std.proofs.Common.{◌≡◌, ℕ, List, [], ◌∷◌, ◌++◌, length, ap, ◌∙◌, sym, arith, get_or}
 use Rattle.monoid_laws.specs.Worth.{Worth}
 use Rattle.monoid_laws.specs.declared.Kind.{Kind}
-use Rattle.positions.specs.Tallies.{touched_from}
-use Rattle.layers.specs.Recordings.{touched_at}
+use Rattle.positions.specs.Tallies.{touched_from, touched_at}
 use Rattle.layers.proofs.Touches.{touched_step}
 
 same_touched : (i : ℕ) (k l : Kind) (v w : Worth) → k ≡ l → v ≡ w → touched_at i k v ≡ touched_at i l w

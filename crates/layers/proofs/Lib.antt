@@ -4,12 +4,10 @@ pub mod Lowest
 pub mod Kept
 pub mod Updates
 pub mod Flags
-pub mod Empties
 pub mod Marks
 pub mod Touches
 pub mod Homes
 pub mod Gatherings
 pub mod Ascending
 pub mod Few
-pub mod Strung
 pub mod Alone

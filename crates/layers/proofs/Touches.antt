@@ -13,8 +13,8 @@ use Rattle.monoid_laws.specs.Kinds.{identity_of, AreWorths}
 use Rattle.record_theory.specs.Named.{IsValueAt, AreValuesFrom, HasValuesIfAnswers, HaveValues}
 use Rattle.positions.specs.Layers.{PlainLayer}
 use Rattle.positions.specs.Values.{same_worth}
-use Rattle.positions.specs.Tallies.{PlainOpened, PlainTally, closing, closing_by, record_by, touched_from, entries_from}
-use Rattle.layers.specs.Recordings.{touched_at, entry_of, found_entry}
+use Rattle.positions.specs.Tallies.{PlainOpened, PlainTally, closing, closing_by, record_by, touched_from, touched_at, entries_from}
+use Rattle.layers.specs.Recordings.{entry_of, found_entry}
 use Rattle.record_theory.proofs.Absorbed.{each, values_lower}
 
 -- ---- the values of reducers

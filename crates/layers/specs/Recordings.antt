@@ -1,14 +1,11 @@
 -- What a record keeps of a layer, before it is known which instance's record it is.
-use Rattle.std.specs.Prelude.{ℕ, suc, ◌-◌, ℤ, cond, List, [], ◌∷◌, Option, Some, None, slice_get}
+use Rattle.std.specs.Prelude.{ℕ, suc, ◌-◌, ℤ, List, [], ◌∷◌, Option, Some, None, slice_get}
 use Rattle.meaning.specs.Tree.{Name}
 use Rattle.monoid_laws.specs.Worth.{Worth}
-use Rattle.monoid_laws.specs.declared.Kind.{Kind}
-use Rattle.monoid_laws.specs.Kinds.{identity_of}
 use Rattle.meaning.specs.Elision.{depth_limit}
 use Rattle.evaluation.specs.declared.note.Note.{Note}
 use Rattle.record_theory.specs.Record.{PlainRecord}
 use Rattle.positions.specs.Layers.{PlainLayer, kept_reads}
-use Rattle.positions.specs.Values.{same_worth}
 use Rattle.positions.specs.Tallies.{PlainOpened, touched_from, entries_from}
 
 -- the values of the reducers that were touched, each reading once, the procedures entered, and how many instances were nested at most, main counted
@@ -38,10 +35,6 @@ recorded r o v = record {
   height = r.levels - (depth_limit - o.left);
   stale = 0;
 }
-
--- a reducer's value with its number, unless it is the kind's identity
-abbrev pub touched_at : ℕ → Kind → Worth → List (ℕ × Worth)
-touched_at i k w = cond (same_worth w (identity_of k)) [] ((i, w) ∷ [])
 
 -- a procedure's number with its revision number, where there is such a procedure
 abbrev pub entry_of : ℕ → Option (Name × ℕ) → List (ℕ × ℕ)

@@ -13,6 +13,7 @@ use hypermaps::Hypermap;
 use instance_records::readings::Readings;
 use instance_records::record::Record;
 use monoid_laws::Val;
+use positions::readings::put_nested;
 use std::alloc::{AllocError, Global};
 use view_pool::View;
 
@@ -89,7 +90,7 @@ pub(crate) fn push_shared(shared: &mut Vec<Readings>, reads: Readings)
     requires room { vec_len shared.old < vec_capacity shared.old }
     ensures pushed { all_of shared.new.items ≡ all_of shared.old.items ++ reads }
 {
-    shared.push_reserved(reads);
+    put_nested(shared, reads);
 }
 
 /// Puts up the flags of these procedures.

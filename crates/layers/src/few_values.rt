@@ -6,13 +6,13 @@ ghost use Rattle.hypermaps.specs.Layer.{IsAt};
 ghost use Rattle.record_theory.specs.Named.{AreValuesFrom};
 ghost use Rattle.record_theory.specs.Record.{touched};
 ghost use Rattle.instance_records.specs.ShortLists.{items_in};
-ghost use Rattle.positions.specs.Tallies.{touched_from};
-ghost use Rattle.layers.specs.Recordings.{touched_at};
+ghost use Rattle.positions.specs.Tallies.{touched_from, touched_at};
 
-use crate::identities::is_identity;
 use hypermaps::Hypermap;
 use instance_records::short_list::ShortList;
 use monoid_laws::{Kind, Val};
+use positions::identities::is_identity;
+use positions::touched::unless_identity;
 use std::alloc::{AllocError, Global};
 use view_pool::View;
 
@@ -106,17 +106,6 @@ fn touched_value<V: View>(
         Some(value) => Ok(unless_identity(reducer, kind, value)),
         None => Ok(None),
     }
-}
-
-/// A reducer's number with that value, unless it is the identity.
-#[inline(always)]
-fn unless_identity(reducer: usize, kind: &Kind, value: Val) -> Option<(usize, Val)>
-    ensures touched { map touched (option_to_list result) ≡ touched_at reducer kind.now (meaning value) }
-{
-    if is_identity(kind, &value) {
-        return None;
-    }
-    Some((reducer, value))
 }
 
 /// The list of one value, where it is there. It takes no memory.

@@ -10,9 +10,8 @@ ghost use Rattle.layers.specs.Folds.{HasSameProduct, IsSameButWorths};
 ghost use Rattle.layers.specs.Recordings.{recorded, entry_of};
 
 use crate::absorbing::push_shared;
-use crate::identities::is_identity;
 use crate::joining::flag_all;
-use crate::layer::{DEEPEST, Layer};
+use crate::layer::Layer;
 use crate::recording::{Opened, are_of_two_columns, only_up, two_reads};
 use evaluation::reading::Reading;
 use hypermaps::Hypermap;
@@ -20,6 +19,8 @@ use instance_records::record::Record;
 use instance_records::short_list::ShortList;
 use linked_program::checked::Checked;
 use monoid_laws::{Kind, Val};
+use positions::heights::height;
+use positions::identities::is_identity;
 use std::alloc::AllocError;
 use view_pool::View;
 
@@ -135,7 +136,6 @@ pub(crate) fn record_of_two(
     }) opened leaf.value }
 {
     let (procedure, arguments, left) = opened.into_parts();
-    let height = leaf.levels.saturating_sub(DEEPEST.saturating_sub(left));
     Record::of_values(
         procedure,
         arguments,
@@ -143,6 +143,6 @@ pub(crate) fn record_of_two(
         ShortList::Two([(0, first), (1, second)]),
         two_reads(found),
         ShortList::One((leaf.procedure, leaf.revision)),
-        height,
+        height(leaf.levels, left),
     )
 }

@@ -1,7 +1,6 @@
 //! What is kept of a memo instance whose layer is open, and what a record keeps of the layer once it is over.
 ghost use Rattle.std.specs.Prelude.{true, false, suc, ◌≡◌, ◌<◌, ◌++◌, ℕ, IfOk, IfSome, List, OnOk, length, map, slice_get};
 ghost use Rattle.meaning.specs.Tree.{Name};
-ghost use Rattle.std.specs.List.{list_any};
 ghost use Rattle.monoid_laws.specs.Worth.{Worth};
 ghost use Rattle.monoid_laws.specs.Kinds.{meaning};
 ghost use Rattle.hypermaps.specs.Layer.{IsAt};
@@ -13,14 +12,13 @@ ghost use Rattle.instance_records.specs.ShortLists.{items_in};
 ghost use Rattle.record_theory.specs.Same.{same_note};
 ghost use Rattle.positions.specs.Layers.{kept_reads as kept_reads_of};
 ghost use Rattle.positions.specs.Values.{once, put_note};
-ghost use Rattle.positions.specs.Tallies.{touched_from, entries_from};
+ghost use Rattle.positions.specs.Tallies.{touched_from, touched_at, entries_from};
 ghost use Rattle.layers.specs.Gatherings.{gathered_in};
-ghost use Rattle.layers.specs.Recordings.{recording_of, recorded, touched_at, entry_of};
+ghost use Rattle.layers.specs.Recordings.{recording_of, recorded, entry_of};
 
 use crate::few_values::{value_of_one, values_of_some, values_of_used};
 use crate::gathered::Gathered;
-use crate::identities::is_identity;
-use crate::layer::{DEEPEST, Layer};
+use crate::layer::Layer;
 use crate::rising::are_rising;
 use evaluation::note::Note;
 use evaluation::notes::Notes;
@@ -32,6 +30,9 @@ use instance_records::record::Record;
 use instance_records::short_list::ShortList;
 use linked_program::checked::Checked;
 use monoid_laws::{Kind, Val};
+use positions::heights::height;
+use positions::readings::is_among;
+use positions::touched::unless_identity;
 use std::alloc::{AllocError, Global};
 use std::marker::Model;
 use view_pool::View;
@@ -170,7 +171,6 @@ impl Recording {
             entered,
             levels,
         } = self;
-        let height = levels.saturating_sub(DEEPEST.saturating_sub(left));
         Record::of_values(
             procedure,
             arguments,
@@ -178,7 +178,7 @@ impl Recording {
             contribution,
             reads,
             entered,
-            height,
+            height(levels, left),
         )
     }
 }
@@ -320,10 +320,10 @@ fn push_value(
     ensures pushed { OnOk result (map touched (gathered_in values.new)
         ≡ map touched (gathered_in values.old) ++ touched_at reducer kind.now (meaning value)) }
 {
-    if is_identity(kind, &value) {
-        return Ok(());
+    match unless_identity(reducer, kind, value) {
+        Some(value) => values.put(alloc, value, most),
+        None => Ok(()),
     }
-    values.put(alloc, (reducer, value), most)
 }
 
 /// A layer's own readings, each once, and then those that it shares. Those of an instance that multiplies two cells are looked
@@ -460,26 +460,6 @@ fn mark_few(
         return Ok(());
     }
     seen.push(alloc, *reading)
-}
-
-/// Whether a reading is among those.
-fn is_among(seen: &[Reading], reading: &Reading) -> bool
-    ensures among { result ≡ list_any (same_note (note_of reading.now)) (map note_of seen.now) }
-{
-    for other in seen {
-        if is_same(reading, other) {
-            return true;
-        }
-    }
-    false
-}
-
-/// Whether two readings are the same.
-#[tactic(auto, using(record_theory::proofs::Same::derived_same))]
-fn is_same(left: &Reading, right: &Reading) -> bool
-    ensures same { result ≡ same_note (note_of left.now) (note_of right.now) }
-{
-    left.note() == right.note()
 }
 
 /// The readings, each once, as notes.

@@ -9,10 +9,10 @@ ghost use Rattle.layers.specs.Folds.{IsSameButWorths, HasSameProduct, BothHaveVa
 use crate::few_values::let_go;
 use crate::layer::Layer;
 use crate::leaves::{Leaf, are_touched, record_of_two};
-use crate::pieces::Pieces;
 use crate::recording::Opened;
 use instance_records::record::Record;
 use linked_program::checked::Checked;
+use list_pieces::pieces::Pieces;
 use monoid_laws::Val;
 use std::alloc::{AllocError, Global};
 use std::marker::Model;
@@ -32,7 +32,7 @@ pub struct Tally {
 impl Model for Tally {
     ghost use Rattle.std.specs.Prelude.{reverse};
     ghost use Rattle.positions.specs.Tallies.{PlainTally};
-    ghost use Rattle.layers.specs.Pieces.{items_in, IsRoomy};
+    ghost use Rattle.list_pieces.specs.Pieces.{items_in, IsRoomy};
 
     ghost Value = { PlainTally };
 

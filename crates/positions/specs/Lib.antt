@@ -4,6 +4,7 @@ pub mod Setting
 pub mod Layers
 pub mod Values
 pub mod Tallies
+pub mod Identities
 pub mod Strands
 pub mod Advance
 pub mod Moves

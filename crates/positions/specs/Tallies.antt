@@ -58,6 +58,10 @@ touched_from i [] ws = []
 touched_from i (k ∷ ks) [] = []
 touched_from i (k ∷ ks) (w ∷ ws) = cond (same_worth w (identity_of k)) (touched_from (suc i) ks ws) ((i, w) ∷ touched_from (suc i) ks ws)
 
+-- a reducer's value with its number, unless it is the kind's identity
+abbrev pub touched_at : ℕ → Kind → Worth → List (ℕ × Worth)
+touched_at i k w = cond (same_worth w (identity_of k)) [] ((i, w) ∷ [])
+
 -- the numbers of the procedures whose flags are up, with their revision numbers, of those from a number on
 abbrev pub entries_from : ℕ → List (Name × ℕ) → List Bool → List (ℕ × ℕ)
 entries_from i [] flags = []

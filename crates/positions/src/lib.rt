@@ -2,6 +2,10 @@
 #![tactic(auto)]
 
 pub mod answer;
+pub mod heights;
+pub mod identities;
 pub mod phase;
+pub mod readings;
 pub mod start;
+pub mod touched;
 pub mod work;

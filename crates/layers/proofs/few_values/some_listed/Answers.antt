@@ -3,7 +3,7 @@ use Rattle.std.specs.Prelude.{option_to_list}
 use Rattle.std.proofs.lemmas.List.{map-append}
 use Rattle.monoid_laws.specs.Kinds.{meaning}
 use Rattle.record_theory.specs.Record.{touched}
-use Rattle.layers.specs.Recordings.{touched_at}
+use Rattle.positions.specs.Tallies.{touched_at}
 use Rattle.layers.proofs.few_values.some_listed.Goals as goal
 
 pub returns : goal.returns

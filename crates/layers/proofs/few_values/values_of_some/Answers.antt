@@ -4,7 +4,7 @@ use Rattle.std.proofs.lemmas.List.{map-append}
 use Rattle.monoid_laws.specs.Worth.{Worth}
 use Rattle.monoid_laws.specs.declared.Kind.{Kind}
 use Rattle.record_theory.specs.Record.{touched}
-use Rattle.layers.specs.Recordings.{touched_at}
+use Rattle.positions.specs.Tallies.{touched_at}
 use Rattle.record_theory.proofs.Absorbed.{each, there}
 use Rattle.record_theory.specs.Named.{AreValuesFrom}
 use Rattle.layers.proofs.Touches.{touched_values}

@@ -5,7 +5,7 @@ use Rattle.monoid_laws.specs.Kinds.{meaning}
 use Rattle.hypermaps.specs.Layer.{IsAt}
 use Rattle.record_theory.specs.Record.{touched}
 use Rattle.layers.specs.Gatherings.{gathered_in}
-use Rattle.layers.specs.Recordings.{touched_at}
+use Rattle.positions.specs.Tallies.{touched_at}
 use Rattle.record_theory.proofs.Absorbed.{each, same_at}
 use Rattle.layers.proofs.Touches.{some_is, identity_untouched}
 use Rattle.layers.proofs.recording.push_touched.Goals as goal

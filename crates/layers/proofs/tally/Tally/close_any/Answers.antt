@@ -2,7 +2,7 @@ use Rattle.std.proofs.Common.{rules, ◌≡◌, ◌++◌, ◌∷◌, ◌∙◌, 
 use Rattle.record_theory.specs.Named.{HaveValues, AreValuesFrom}
 use Rattle.record_theory.specs.Record.{PlainRecord}
 use Rattle.positions.specs.Tallies.{PlainTally, record_by}
-use Rattle.layers.specs.Pieces.{items_in}
+use Rattle.list_pieces.specs.Pieces.{items_in}
 use Rattle.layers.proofs.Touches.{one_more_values, closed_tally}
 use Rattle.layers.proofs.tally.Tally.close_any.Goals as goal
 

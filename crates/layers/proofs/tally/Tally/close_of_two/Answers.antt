@@ -2,7 +2,7 @@ use Rattle.std.proofs.Common.{◌≡◌, ◌∙◌, ap, subst, sym}
 use Rattle.record_theory.specs.Named.{HaveValues, AreValuesFrom}
 use Rattle.record_theory.specs.Record.{PlainRecord}
 use Rattle.positions.specs.Tallies.{PlainTally, touched_from}
-use Rattle.layers.specs.Pieces.{items_in}
+use Rattle.list_pieces.specs.Pieces.{items_in}
 use Rattle.layers.proofs.Touches.{one_more_values, touched_values}
 use Rattle.layers.proofs.tally.Tally.close_of_two.Goals as goal
 use Rattle.layers.proofs.tally.Tally.close_of_two.Goals.{in-Some, in-None}

@@ -1,7 +1,7 @@
 use Rattle.std.proofs.Common.{◌≡◌, ◌++◌, ◌∙◌, ap, subst, sym}
 use Rattle.record_theory.specs.Named.{HaveValues}
 use Rattle.positions.specs.Tallies.{PlainTally}
-use Rattle.layers.specs.Pieces.{items_in}
+use Rattle.list_pieces.specs.Pieces.{items_in}
 use Rattle.layers.proofs.Touches.{both_values}
 use Rattle.layers.proofs.tally.Tally.take_over.Goals as goal
 

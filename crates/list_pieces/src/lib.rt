@@ -1,0 +1,4 @@
+//! Lists that are put together without copying long ones.
+#![tactic(auto)]
+
+pub mod pieces;
