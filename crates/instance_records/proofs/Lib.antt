@@ -6,3 +6,5 @@ pub mod Among
 pub mod Parts
 pub mod Joined
 pub mod Sharing
+pub mod Runs
+pub mod Together

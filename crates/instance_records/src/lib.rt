@@ -7,6 +7,7 @@ pub mod narrowing;
 mod pairs;
 pub mod readings;
 pub mod record;
+pub mod several;
 pub mod short_list;
 pub mod spans;
 mod touching;

@@ -15,7 +15,7 @@ ghost use Rattle.record_theory.specs.Same.{is_read, same_note};
 
 use crate::hull::Hull;
 use crate::narrowing::{how_many, how_many_own, lowest, touched_own};
-use crate::pairs::{are_pairs, with_pairs};
+use crate::pairs::{are_pairs, put_both, with_pairs};
 use crate::short_list::ShortList;
 use crate::spans::{Span, may_have, put_pair, put_read, put_spans};
 use crate::touching::{are_own_touched, node_is_touched};
@@ -32,6 +32,9 @@ use std::sync::Arc;
 
 /// So many own readings at most are looked through one by one. More of them lie below by themselves, to be passed over by their rows.
 const FEW: usize = 4;
+
+/// What was read is mostly of so many tables.
+const TABLES: usize = 1;
 
 /// What an instance has read of its own, and what those below it have. Most have none below, so that lies by itself.
 #[cycle(parts)]
@@ -131,7 +134,7 @@ impl Readings {
         ensures put { OnOk result (map note_of all.new.items ≡ map note_of all.old.items ++ self.now) }
     {
         match &self.held {
-            Held::Two(pair) => all.extend_from_slice(pair),
+            Held::Two(pair) => put_both(pair, all),
             Held::Shared(_) => Err(AllocError),
         }
     }
@@ -151,7 +154,7 @@ impl Readings {
     }
 
     // As many readings as there are, then those of the parts.
-    fn of_list(
+    pub(crate) fn of_list(
         alloc: Global,
         mut own: ShortList<Reading>,
         parts: Vec<Readings>,
@@ -175,6 +178,7 @@ impl Readings {
         ensures made { IfOk result (λ r. r ≡ map note_of (items_in own) ++ all_of parts.items) }
     {
         let first = Readings::of(alloc, own, Vec::new(alloc))?;
+        parts.reserve_exact(1)?;
         parts.insert(0, first)?;
         Readings::of(alloc, ShortList::new(Vec::new(alloc)), parts)
     }
@@ -350,7 +354,7 @@ fn make_below(alloc: Global, parts: Vec<Readings>) -> Result<Option<Box<Below>>,
     if parts.is_empty() {
         return Ok(None);
     }
-    let mut spans = Vec::new(alloc);
+    let mut spans = Vec::with_capacity(alloc, TABLES)?;
     let parts = nodes(alloc, parts, &mut spans)?;
     spans.shrink_to_fit();
     Ok(Some(Box::new(alloc, Below { parts, spans })?))

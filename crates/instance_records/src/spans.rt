@@ -1,5 +1,6 @@
 //! Stretches of rows in which what was read lies, one for each table.
 ghost use Rattle.std.specs.Prelude.{◌≡◌, IfOk, IfSome, OnOk, Some, map, nat_eq, pos, false, true};
+ghost use Rattle.std.specs.Int.{int_min, int_max};
 ghost use Rattle.std.specs.List.{list_any};
 ghost use Rattle.evaluation.specs.declared.note.Note.{Note as PlainNote};
 ghost use Rattle.evaluation.specs.Short.{note_of};
@@ -68,6 +69,25 @@ impl Span {
             whole: self.whole || other.whole,
             low,
             high,
+        }
+    }
+
+    // These rows with one more of the same table.
+    #[inline(always)]
+    fn with_row(self, row: u32) -> Span
+        ensures joined { result ≡ record {
+          table = self.table;
+          whole = self.whole;
+          low = int_min self.low (pos row);
+          high = int_max self.high (pos row);
+        } }
+    {
+        let row = i64::from(row);
+        Span {
+            table: self.table,
+            whole: self.whole,
+            low: self.low.min(row),
+            high: self.high.max(row),
         }
     }
 
@@ -141,46 +161,54 @@ pub(crate) fn put_spans(more: &[Span], spans: &mut Vec<Span>) -> Result<(), Allo
     Ok(())
 }
 
-/// Joins spans with the rows that were read. Readings of one row mostly stand behind one another: it is put in once then.
+/// Joins spans with the rows that were read. Those of one table that stand behind one another are joined first, and put in together.
 pub(crate) fn put_read(own: &[Reading], spans: &mut Vec<Span>) -> Result<(), AllocError>
     ensures put { OnOk result (spans.new.items ≡ put_spans spans.old.items (map span_of own.now)) }
 {
-    let mut last = None;
-    for reading in own {
-        last = Some(put_behind(reading, last, spans)?);
+    match own.first() {
+        Some(first) => put_from(own, Span::new(first), spans),
+        None => Ok(()),
     }
-    Ok(())
 }
 
-// Joins spans with the rows of a reading, unless they were joined with the same rows last; the rows that it rests on.
+// Joins spans with the rows that were read, where those of the first reading are these.
 #[inline(always)]
-#[tactic(auto, using(crate::proofs::Covered::put_twice))]
-fn put_behind(
-    reading: &Reading,
-    last: Option<Span>,
-    spans: &mut Vec<Span>,
-) -> Result<Span, AllocError>
-    requires last { IfSome last (λ s. put_span spans.old.items s ≡ spans.old.items) }
-    ensures put { OnOk result (spans.new.items ≡ put_span spans.old.items (span_of reading.now)) }
-    ensures last { IfOk result (λ s. put_span spans.new.items s ≡ spans.new.items) }
+fn put_from(own: &[Reading], first: Span, spans: &mut Vec<Span>) -> Result<(), AllocError>
+    requires first { put_spans (put_span spans.old.items first) (map span_of own.now)
+        ≡ put_spans spans.old.items (map span_of own.now) }
+    ensures put { OnOk result (spans.new.items ≡ put_spans spans.old.items (map span_of own.now)) }
+{
+    let mut run = first;
+    for reading in own {
+        run = joined_on(run, reading, spans)?;
+    }
+    put_span(&run, spans)
+}
+
+// Joins rows that aren't in the spans yet with those of a reading, and puts them in first, where that is of another table.
+#[inline(always)]
+fn joined_on(run: Span, reading: &Reading, spans: &mut Vec<Span>) -> Result<Span, AllocError>
+    ensures joined { IfOk result (λ s. put_span spans.new.items s
+        ≡ put_span (put_span spans.old.items run) (span_of reading.now)) }
+{
+    match reading {
+        Reading::Cell { table, row, .. } if *table == run.table => { Ok(run.with_row(*row)) }
+        _ => turned_to(run, reading, spans),
+    }
+}
+
+// The same of whatever reading.
+#[inline(never)]
+fn turned_to(run: Span, reading: &Reading, spans: &mut Vec<Span>) -> Result<Span, AllocError>
+    ensures joined { IfOk result (λ s. put_span spans.new.items s
+        ≡ put_span (put_span spans.old.items run) (span_of reading.now)) }
 {
     let span = Span::new(reading);
-    if is_last(last, &span) {
-        return Ok(span);
+    if span.table == run.table {
+        return Ok(run.joined(&span));
     }
-    put_span(&span, spans)?;
+    put_span(&run, spans)?;
     Ok(span)
-}
-
-// Whether the last one has the same rows.
-#[inline(always)]
-fn is_last(last: Option<Span>, span: &Span) -> bool
-    ensures last { result ≡ true → last ≡ Some span.now }
-{
-    match last {
-        Some(last) => last.is_same(span),
-        None => false,
-    }
 }
 
 /// Joins spans with the rows of two readings, which most often are of one row.

@@ -70,8 +70,8 @@ impl Block {
             && self.sum.is_allowed(series.depth, program)
     }
 
-    // Whether the first of its records has that place.
-    fn begins_at(&self, place: usize) -> bool
+    /// Whether the first of its records has that place.
+    pub(crate) fn begins_at(&self, place: usize) -> bool
         ensures begins { result ≡ true → slice_get self.now.places 0 ≡ Some place }
     {
         match self.places.first() {

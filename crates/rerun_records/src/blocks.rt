@@ -105,6 +105,11 @@ impl Blocks {
         ensures answers { IfSome result (λ b.
             Answers program.now series.depth place series.counted series.most b.now) }
     {
+        // A wider one begins where a fine one does.
+        let fine = self.fine.at(place)?;
+        if !fine.begins_at(place) {
+            return None;
+        }
         if let Some(block) = self.vast.at(place) {
             if block.answers(place, series, program) && self.are_for(program.kinds()) {
                 return Some(block);
@@ -120,10 +125,8 @@ impl Blocks {
                 return Some(block);
             }
         }
-        if let Some(block) = self.fine.at(place) {
-            if block.answers(place, series, program) && self.are_for(program.kinds()) {
-                return Some(block);
-            }
+        if fine.answers(place, series, program) && self.are_for(program.kinds()) {
+            return Some(fine);
         }
         None
     }

@@ -1,0 +1,14 @@
+use Rattle.std.proofs.Common.{pos, false, ap, ◌∙◌}
+use Rattle.instance_records.specs.Spans.{span_of, put_span}
+use Rattle.instance_records.proofs.Runs.{made, put_row}
+use Rattle.instance_records.proofs.spans.joined_on.Goals as goal
+
+pub returns-in-Cell : goal.returns-in-Cell
+returns-in-Cell c =
+    let xs = c.args.spans.now.items in
+    let row = pos c.in-Cell.row in
+    record {
+      joined =
+          ap (put_span xs) c.with_row.ensures.joined
+          ∙ put_row xs c.args.run row (span_of c.args.reading.now) (ap span_of c.in-Cell.is ∙ ap (λ t. made t false row row) c.if-table-run.true);
+    }
