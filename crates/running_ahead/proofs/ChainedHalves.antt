@@ -46,15 +46,15 @@ left_reaches c g fits = omega (arith, fits)
 pub right_reaches : (c g : ℕ) → c ≤ g + g → c - c / 2 ≤ g
 right_reaches c g fits = omega (arith, fits)
 
-halves_sum : (c : ℕ) → c ≡ c / 2 + (c - c / 2)
+pub halves_sum : (c : ℕ) → c ≡ c / 2 + (c - c / 2)
 halves_sum c = omega arith
 
-none_left : (c : ℕ) → (c - c == 0) ≡ true
+pub none_left : (c : ℕ) → (c - c == 0) ≡ true
 none_left c =
     let none : c - c ≡ 0 = omega arith in
     ap (λ n. n == 0) none
 
-turned_same : (n : ℕ) (l : Loop) (h : Share) (a : PlainActivation) → turned_by n l h (at (Turns l h) a) ≡ turned_to n l h a
+pub turned_same : (n : ℕ) (l : Loop) (h : Share) (a : PlainActivation) → turned_by n l h (at (Turns l h) a) ≡ turned_to n l h a
 turned_same zero l h a = refl
 turned_same (suc n) l h a = refl
 
@@ -88,28 +88,28 @@ module _ (setting : Setting) (l : Loop) where
       let less : k ≡ suc k - 1 = omega arith in
       first_ahead setting l (suc k) h x (topped Running (child_of_half k (left_of h) a) u (beside_first k h a s)) refl refl more (ap (λ n. in_phase Running (split l n h x)) less)
 
-  first_back : (k : ℕ) (h : Share) (a b : PlainActivation) (v : PlainLayer) (s : PlainStrand) → IsAhead setting (topped (Leaving (pos 0)) b v (beside_first k h a s)) (topped Running (under_first k h a) v s)
+  pub first_back : (k : ℕ) (h : Share) (a b : PlainActivation) (v : PlainLayer) (s : PlainStrand) → IsAhead setting (topped (Leaving (pos 0)) b v (beside_first k h a s)) (topped Running (under_first k h a) v s)
   first_back k h a b v s =
       let t = topped Running (under_first k h a) v s in
       leave_ahead setting (pos 0) (topped (Leaving (pos 0)) b v (beside_first k h a s)) t refl (ap (λ p. record t { path = p }) (sym (path_back s.path (a.children + 1))))
 
-  to_second : (k : ℕ) (h : Share) (a : PlainActivation) (v : PlainLayer) (s : PlainStrand)
+  pub to_second : (k : ℕ) (h : Share) (a : PlainActivation) (v : PlainLayer) (s : PlainStrand)
       → IsAhead setting (topped Running (under_first k h a) v s) (topped Running (child_of_half k (right_of h) a) v (beside_second k h a s))
   to_second k h a v s = second_ahead setting l k (right_of h) (topped Running (under_first k h a) v s) (topped Running (child_of_half k (right_of h) a) v (beside_second k h a s)) refl refl refl
 
-  second_back : (k : ℕ) (h : Share) (a b : PlainActivation) (v : PlainLayer) (s : PlainStrand) → IsAhead setting (topped (Leaving (pos 0)) b v (beside_second k h a s)) (topped Running (under_second k h a) v s)
+  pub second_back : (k : ℕ) (h : Share) (a b : PlainActivation) (v : PlainLayer) (s : PlainStrand) → IsAhead setting (topped (Leaving (pos 0)) b v (beside_second k h a s)) (topped Running (under_second k h a) v s)
   second_back k h a b v s =
       let t = topped Running (under_second k h a) v s in
       leave_ahead setting (pos 0) (topped (Leaving (pos 0)) b v (beside_second k h a s)) t refl (ap (λ p. record t { path = p }) (sym (path_back s.path ((a.children + 1) + 1))))
 
   -- the implicit sync
-  syncs : (d : ℕ) (s : PlainStrand) → IsClear d s → IsAhead setting (in_phase (Returning (pos 0)) s) (in_phase (Leaving (pos 0)) s)
+  pub syncs : (d : ℕ) (s : PlainStrand) → IsClear d s → IsAhead setting (in_phase (Returning (pos 0)) s) (in_phase (Leaving (pos 0)) s)
   syncs d s clear =
       let both = clear s.path (omega arith) (omega arith) in
       sync_ahead setting (pos 0) (in_phase (Returning (pos 0)) s) refl both.0 both.1
 
   -- both halves are over
-  both_over : (d k : ℕ) (h : Share) (a : PlainActivation) (v : PlainLayer) (s : PlainStrand) → IsClear d s → IsAhead setting (topped Running (under_second k h a) v s) (topped (Leaving (pos 0)) (halved_to a) v s)
+  pub both_over : (d k : ℕ) (h : Share) (a : PlainActivation) (v : PlainLayer) (s : PlainStrand) → IsClear d s → IsAhead setting (topped Running (under_second k h a) v s) (topped (Leaving (pos 0)) (halved_to a) v s)
   both_over d k h a v s clear =
       let x = topped Running (under_second k h a) v s in
       let gives : IsNext setting x (giving (pos 0) x) = λ kit. refl in

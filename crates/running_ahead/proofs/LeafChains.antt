@@ -1,50 +1,50 @@
--- Iterations that are recorded one after another.
-use Rattle.std.proofs.Common.{◌≡◌, ◌∙◌, ℕ, ◌+◌, ◌-◌, ◌==◌, ◌<◌, ℤ, pos, ◌+ℤ◌, false, true, List, [], ◌∷◌, None, map, sym, ap, subst, add-one}
+-- Iterations whose statements are done in layers of their own are recorded, one behind another.
+use Rattle.std.proofs.Common.{◌≡◌, ◌∙◌, ℕ, suc, ◌+◌, ◌-◌, ◌==◌, ℤ, pos, ◌+ℤ◌, false, true, List, [], ◌∷◌, None, map, sym, ap, subst, add-one}
 use Rattle.linked_program.specs.CodeView.{expression, memo_of, slots_of}
 use Rattle.evaluation.specs.declared.slot.Slot.{Slot}
+use Rattle.positions.specs.declared.phase.Phase.TheVariants.{Running}
 use Rattle.positions.specs.declared.work.Loop.{Loop}
 use Rattle.positions.specs.declared.work.Share.{Share}
 use Rattle.positions.specs.declared.work.Work.TheVariants.{Turns}
-use Rattle.positions.specs.Activations.{PlainActivation, waiting}
+use Rattle.positions.specs.Activations.{waiting}
 use Rattle.positions.specs.Code.{PlainLoop, loop_at}
 use Rattle.positions.specs.Layers.{PlainLayer}
 use Rattle.positions.specs.Setting.{Setting}
 use Rattle.positions.specs.Strands.{PlainStrand}
 use Rattle.positions.specs.Tallies.{PlainTally}
 use Rattle.positions.specs.Advance.{answer_for, rest_of}
-use Rattle.activations.specs.Turned.{behind, turned_by}
 use Rattle.own_statements.specs.Fills.{IsCounted}
-use Rattle.running_ahead.proofs.Turned.{one_turn, turns_there, turns_left, turns_procedure, turns_slots, more_behind}
 use Rattle.running_ahead.specs.Stepped.{IsStepped}
-use Rattle.running_ahead.specs.Leaves.{PlainLeaf, IsLeaf, with_turns, RecordsTo, arguments_then}
-use Rattle.running_ahead.proofs.Stepping.{steps_join}
+use Rattle.running_ahead.specs.Leaves.{PlainLeaf, IsLeaf, Gathered, gathered, IsRecorded, AreRecorded, more, arguments_then}
 use Rattle.running_ahead.proofs.LeafSteps.{leaf_steps}
 
-module _ (setting : Setting) (l : Loop) (h : Share) (j : PlainLoop) (a : PlainActivation) (depth : ℕ) where
-  -- the iteration behind so many, where the instance has so many levels below it
-  abbrev pub leaf_of : ℕ → ℕ → PlainLeaf
-  leaf_of left n = record { callee = j.callee; size = slots_of setting.codes j.callee; left = left - 1; depth = depth; number = l.low +ℤ pos (h.first + n) }
+abbrev pub gathered_by : PlainLayer → PlainTally → List ℤ → Gathered
+gathered_by l t xs = record { layer = l; tally = t; arguments = xs }
 
-  module _ (there : a.work ≡ Turns l h) (found : j ≡ loop_at setting.codes a.procedure l) (memo : memo_of setting.codes j.callee ≡ true) (deep : (a.left == 0) ≡ false)
-      (counted : IsCounted a.slots j.variable (map expression j.arguments)) (none : (z : PlainStrand) → answer_for setting z ≡ None)
-      (u : PlainLayer) (t : PlainTally) (xs : List ℤ) where
+module _ (setting : Setting) (l : Loop) (j : PlainLoop) where
+  -- the iteration of that number, where the loop's instance has so many levels below it
+  abbrev pub leaf_of : ℕ → ℕ → PlainLeaf
+  leaf_of left i = record { callee = j.callee; size = slots_of setting.codes j.callee; left = left - 1; number = l.low +ℤ pos i }
+
+  module _ (p : ℕ) (slots : List Slot) (left : ℕ) (found : j ≡ loop_at setting.codes p l) (memo : memo_of setting.codes j.callee ≡ true) (deep : (left == 0) ≡ false)
+      (counted : IsCounted slots j.variable (map expression j.arguments)) (unknown : (z : PlainStrand) → answer_for setting z ≡ None) where
+    is_recorded : (i : ℕ) (v w : PlainLayer) (t u : PlainTally) (xs : List ℤ) → IsLeaf setting (leaf_of left i) v t w u
+        → IsRecorded setting l p slots left i (gathered_by v t xs) (gathered_by w u ((l.low +ℤ pos i) ∷ []))
+    is_recorded i v w t u xs leaf a h procedure same levels there first some s amid =
+        let found_here : j ≡ loop_at setting.codes a.procedure l = found ∙ ap (λ (f : ℕ). loop_at setting.codes f l) (sym procedure) in
+        let deep_here : (a.left == 0) ≡ false = subst (λ (k : ℕ). (k == 0) ≡ false) (sym levels) deep in
+        let counted_here : IsCounted a.slots j.variable (map expression j.arguments) = subst (λ (zs : List Slot). IsCounted zs j.variable (map expression j.arguments)) (sym same) counted in
+        let leaf_here : IsLeaf setting (leaf_of a.left h.first) v t w u =
+        subst (λ (k : ℕ). IsLeaf setting (leaf_of k h.first) v t w u) (sym levels) (subst (λ (k : ℕ). IsLeaf setting (leaf_of left k) v t w u) (sym first) leaf) in
+        subst (λ (k : ℕ). IsStepped setting (gathered Running a (gathered_by v t xs) s) (gathered Running (waiting false None (Turns l (rest_of h)) a) (gathered_by w u ((l.low +ℤ pos k) ∷ [])) s)) first
+        (leaf_steps setting l h j a v t xs s there some found_here memo deep_here counted_here unknown amid w u leaf_here)
+
     -- one more behind so many
-    pub one_more : (n : ℕ) (v w : PlainLayer) (x y : PlainTally) → n < h.count → RecordsTo setting depth a u t xs (turned_by n l h a) v x (arguments_then n l h xs)
-        → IsLeaf setting (leaf_of a.left n) v x w y
-        → RecordsTo setting depth a u t xs (turned_by (n + 1) l h a) w y (arguments_then (n + 1) l h xs)
-    one_more n v w x y less before leaf s amid =
-        let b = turned_by n l h a in
-        let ys = arguments_then n l h xs in
-        let last : List ℤ = (l.low +ℤ pos (h.first + n)) ∷ [] in
-        let c = waiting false None (Turns l (rest_of (behind n h))) b in
-        let levels : b.left ≡ a.left = turns_left n l h a in
-        let found_here : j ≡ loop_at setting.codes b.procedure l = found ∙ ap (λ f. loop_at setting.codes f l) (sym (turns_procedure n l h a)) in
-        let deep_here : (b.left == 0) ≡ false = subst (λ k. (k == 0) ≡ false) (sym levels) deep in
-        let counted_here : IsCounted b.slots j.variable (map expression j.arguments) = subst (λ (zs : List Slot). IsCounted zs j.variable (map expression j.arguments)) (sym (turns_slots n l h a)) counted in
-        let leaf_here : IsLeaf setting (leaf_of b.left n) v x w y = subst (λ (k : ℕ). IsLeaf setting (leaf_of k n) v x w y) (sym levels) leaf in
-        let step : IsStepped setting (with_turns b v x ys s) (with_turns c w y last s) =
-        leaf_steps setting l (behind n h) j b v x ys depth s (turns_there n l h a there) (more_behind n h less) found_here memo deep_here counted_here none amid w y leaf_here in
-        let is : with_turns c w y last s ≡ with_turns (turned_by (n + 1) l h a) w y (arguments_then (n + 1) l h xs) s =
-        ap (λ (z : PlainActivation). with_turns z w y last s) (one_turn n l h a) ∙ ap (λ (k : ℕ). with_turns (turned_by (n + 1) l h a) w y (arguments_then k l h xs) s) (sym (add-one n)) in
-        subst (λ (z : PlainStrand). IsStepped setting (with_turns a u t xs s) z) is
-        (steps_join setting (with_turns a u t xs s) (with_turns b v x ys s) (with_turns c w y last s) (before s amid) step)
+    pub one_more : (h : Share) (xs : List ℤ) (x : Gathered) (n : ℕ) (v w : PlainLayer) (t u : PlainTally) → AreRecorded setting l p slots left h.first x n (gathered_by v t (arguments_then n l h xs))
+        → IsLeaf setting (leaf_of left (h.first + n)) v t w u → AreRecorded setting l p slots left h.first x (n + 1) (gathered_by w u (arguments_then (n + 1) l h xs))
+    one_more h xs x n v w t u before leaf =
+        let y = gathered_by v t (arguments_then n l h xs) in
+        let z = gathered_by w u ((l.low +ℤ pos (h.first + n)) ∷ []) in
+        let opened : u.opened ≡ t.opened = ap (λ (o : PlainTally). o.opened) leaf.tally in
+        let longer : AreRecorded setting l p slots left h.first x (suc n) z = more n y z before opened (is_recorded (h.first + n) v w t u (arguments_then n l h xs) leaf) in
+        subst (λ (k : ℕ). AreRecorded setting l p slots left h.first x k (gathered_by w u (arguments_then k l h xs))) (sym (add-one n)) longer

@@ -1,6 +1,5 @@
 -- One iteration that is recorded at once, as small steps of the strand.
-use Rattle.std.proofs.Common.{◌≡◌, ◌∙◌, ℕ, zero, suc, ◌-◌, ◌+◌, ◌==◌, ℤ, pos, ◌+ℤ◌, Bool, true, false, if◌then◌else◌, List, [], ◌∷◌, length, Option, None, map, refl, sym, ap, subst, eq-eqb}
-use Rattle.std.proofs.lemmas.List.{length-append}
+use Rattle.std.proofs.Common.{◌≡◌, ◌∙◌, ℕ, zero, suc, ◌-◌, ◌+◌, ◌==◌, ℤ, pos, ◌+ℤ◌, true, false, if◌then◌else◌, List, [], ◌∷◌, length, Option, None, map, refl, sym, ap, subst, eq-eqb}
 use Rattle.meaning.specs.declared.tree.Way.TheVariants.{Call}
 use Rattle.meaning.specs.Elision.{depth_limit}
 use Rattle.linked_program.specs.CodeView.{expression, memo_of, slots_of}
@@ -27,10 +26,14 @@ use Rattle.small_steps.proofs.Refusals.{path_back}
 use Rattle.small_steps.proofs.Turns.{number_taken}
 use Rattle.running_ahead.specs.Stepped.{IsStepped, here, on}
 use Rattle.running_ahead.proofs.Paths.{turned_next}
-use Rattle.running_ahead.specs.Leaves.{PlainLeaf, opened_by, IsLeaf, with_turns, IsAmid}
+use Rattle.running_ahead.specs.Leaves.{PlainLeaf, opened_by, IsLeaf, IsAmid}
 use Rattle.running_ahead.proofs.Stepping.{steps_join, steps_of}
 
-module _ (setting : Setting) (site : Loop) (h : Share) (j : PlainLoop) (a : PlainActivation) (l : PlainLayer) (t : PlainTally) (xs : List ℤ) (depth : ℕ) (s : PlainStrand) where
+-- a loop's instance and layer, what is counted and recorded, and the arguments of the last iteration
+abbrev pub with_turns : PlainActivation → PlainLayer → PlainTally → List ℤ → PlainStrand → PlainStrand
+with_turns a l t xs s = record s { layer = l; top = a; phase = Running; arguments = xs; tally = t }
+
+module _ (setting : Setting) (site : Loop) (h : Share) (j : PlainLoop) (a : PlainActivation) (l : PlainLayer) (t : PlainTally) (xs : List ℤ) (s : PlainStrand) where
   -- the iteration's number, and the instance that has called it
   abbrev pub number_here : ℤ
   number_here = site.low +ℤ pos h.first
@@ -39,7 +42,7 @@ module _ (setting : Setting) (site : Loop) (h : Share) (j : PlainLoop) (a : Plai
   on_turn = waiting false None (Turns site (rest_of h)) a
 
   abbrev pub leaf_here : PlainLeaf
-  leaf_here = record { callee = j.callee; size = slots_of setting.codes j.callee; left = a.left - 1; depth = depth; number = number_here }
+  leaf_here = record { callee = j.callee; size = slots_of setting.codes j.callee; left = a.left - 1; number = number_here }
 
   -- before it, with its arguments, with its instance on top, and with that instance's layer
   abbrev before : PlainStrand
@@ -69,7 +72,7 @@ module _ (setting : Setting) (site : Loop) (h : Share) (j : PlainLoop) (a : Plai
         ∙ called_memo setting true j.number Call None w w j.callee es slots before memo refl
         ∙ turned_more setting true site h before j more found ∙ turned_next setting true site h before refl there
 
-    module _ (amid : IsAmid depth s) (m : PlainLayer) (u : PlainTally) (leaf : IsLeaf setting leaf_here l t m u) where
+    module _ (amid : IsAmid s) (m : PlainLayer) (u : PlainTally) (leaf : IsLeaf setting leaf_here l t m u) where
       abbrev opened_now : PlainOpened
       opened_now = opened_of called
 
@@ -81,7 +84,7 @@ module _ (setting : Setting) (site : Loop) (h : Share) (j : PlainLoop) (a : Plai
       returned = topped (Returning leaf.value) leaf.child leaf.own under
 
       entry : is_entry returned ≡ false
-      entry = amid.entry (a.children + 1)
+      entry = amid (a.children + 1)
 
       own : owns_top returned ≡ true
       own = eq-eqb (length called.path) (length called.path) refl
@@ -91,12 +94,6 @@ module _ (setting : Setting) (site : Loop) (h : Share) (j : PlainLoop) (a : Plai
           sym (ap (λ c. if c then returned else if owns_top returned then closed setting leaf.value returned else in_phase (Leaving leaf.value) returned) entry
           ∙ ap (λ c. if c then closed setting leaf.value returned else in_phase (Leaving leaf.value) returned) own)
 
-      -- the record is that of the iteration
-      same_opened : opened_now ≡ opened_by leaf_here
-      same_opened =
-          let long : length called.path ≡ depth = length-append s.path ((a.children + 1) ∷ []) ∙ amid.size in
-          ap (λ (n : ℕ). record (opened_by leaf_here) { depth = n }) long
-
       abbrev after : PlainStrand
       after = with_turns on_turn (covered l leaf.own) (closing setting.program.revisions leaf.own leaf.value (opening opened_now t)) (number_here ∷ []) s
 
@@ -105,8 +102,7 @@ module _ (setting : Setting) (site : Loop) (h : Share) (j : PlainLoop) (a : Plai
 
       is_after : after ≡ with_turns on_turn m u (number_here ∷ []) s
       is_after =
-          ap (λ (o : PlainOpened). with_turns on_turn (covered l leaf.own) (closing setting.program.revisions leaf.own leaf.value (opening o t)) (number_here ∷ []) s) same_opened
-          ∙ ap (λ (k : PlainLayer). with_turns on_turn k (closing setting.program.revisions leaf.own leaf.value (opening (opened_by leaf_here) t)) (number_here ∷ []) s) (sym leaf.layer)
+          ap (λ (k : PlainLayer). with_turns on_turn k (closing setting.program.revisions leaf.own leaf.value (opening (opened_by leaf_here) t)) (number_here ∷ []) s) (sym leaf.layer)
           ∙ ap (λ (k : PlainTally). with_turns on_turn m k (number_here ∷ []) s) (sym leaf.tally)
 
       pub leaf_steps : IsStepped setting before (with_turns on_turn m u (number_here ∷ []) s)

@@ -10,4 +10,8 @@ pub mod Levels
 pub mod Stepping
 pub mod LeafSteps
 pub mod LeafChains
+pub mod RecordedTurns
+pub mod HalvesRecorded
+pub mod PartsRecorded
+pub mod HalfSettled
 pub mod Kept

@@ -31,7 +31,7 @@ reach_more (suc r) g =
     let fewer : g ≤ reach r g = reach_more r g in
     omega (arith, fewer)
 
-not_by_turns : (k c g : ℕ) → g < c → (suc k == 0 || nat_le c g) ≡ false
+pub not_by_turns : (k c g : ℕ) → g < c → (suc k == 0 || nat_le c g) ≡ false
 not_by_turns k c g more = grind (arith, nat_tests, more)
 
 module _ (setting : Setting) (l : Loop) where

@@ -1,35 +1,36 @@
 -- Iterations of a loop over a memo procedure that are recorded at once.
-use Rattle.std.specs.Prelude.{◌≡◌, ℕ, zero, suc, ◌+◌, ◌-◌, ℤ, pos, ◌+ℤ◌, true, false, List, [], ◌∷◌, ◌++◌, length, Some}
+use Rattle.std.specs.Prelude.{◌≡◌, ℕ, zero, suc, ◌+◌, ◌-◌, ◌==◌, ℤ, pos, ◌+ℤ◌, true, false, List, [], ◌∷◌, ◌++◌, length, Some, None}
 use Rattle.meaning.specs.Elision.{depth_limit}
+use Rattle.evaluation.specs.declared.slot.Slot.{Slot}
 use Rattle.evaluation.specs.Slots.{slots_for}
+use Rattle.positions.specs.declared.phase.Phase.{Phase}
 use Rattle.positions.specs.declared.phase.Phase.TheVariants.{Running}
 use Rattle.positions.specs.declared.work.Loop.{Loop}
 use Rattle.positions.specs.declared.work.Share.{Share}
-use Rattle.positions.specs.declared.work.Work.TheVariants.{Block}
+use Rattle.positions.specs.declared.work.Work.TheVariants.{Block, Turns}
 use Rattle.positions.specs.Setting.{Setting}
-use Rattle.positions.specs.Activations.{PlainActivation, made, first_of}
+use Rattle.positions.specs.Activations.{PlainActivation, made, first_of, waiting}
 use Rattle.positions.specs.Layers.{PlainLayer, blank, covered, entering}
 use Rattle.positions.specs.Strands.{PlainStrand, entry_by}
 use Rattle.positions.specs.Tallies.{PlainOpened, PlainTally, opening, closing}
+use Rattle.positions.specs.Advance.{rest_of}
 use Rattle.own_statements.specs.Paths.{ComesTo}
 use Rattle.running_ahead.specs.declared.leaf.Leaf.{Leaf}
 use Rattle.running_ahead.specs.Stepped.{IsStepped}
 
--- an iteration of a procedure, whose only argument is that number, in an instance of so many slots that has so many levels below it and a
--- name so long
+-- an iteration of a procedure, whose only argument is that number, in an instance of so many slots that has so many levels below it
 pub record PlainLeaf : Type 0 where
   pub callee : ℕ
   pub size : ℕ
   pub left : ℕ
-  pub depth : ℕ
   pub number : ℤ
 
 abbrev pub plain_leaf : Leaf → PlainLeaf
-plain_leaf f = record { callee = f.callee; size = f.size; left = f.left; depth = f.depth; number = f.number }
+plain_leaf f = record { callee = f.callee; size = f.size; left = f.left; number = f.number }
 
--- what is kept of it while its layer is open
+-- what is kept of it while its layer is open. How long its name is has no part in its record
 abbrev pub opened_by : PlainLeaf → PlainOpened
-opened_by f = record { procedure = f.callee; arguments = f.number ∷ []; left = f.left; depth = f.depth }
+opened_by f = record { procedure = f.callee; arguments = f.number ∷ []; left = f.left; depth = 0 }
 
 -- it does its statements in a layer of its own, which becomes a record and goes onto the loop's layer
 pub record IsLeaf (setting : Setting) (f : PlainLeaf) (l : PlainLayer) (t : PlainTally) (m : PlainLayer) (u : PlainTally) : Type 0 where
@@ -43,18 +44,38 @@ pub record IsLeaf (setting : Setting) (f : PlainLeaf) (l : PlainLayer) (t : Plai
 
 -- ---- a strand over whose loop's instance iterations are recorded
 
--- its loop's instance and layer, what is counted and recorded, and the arguments of the last one
-abbrev pub with_turns : PlainActivation → PlainLayer → PlainTally → List ℤ → PlainStrand → PlainStrand
-with_turns a l t xs s = record s { layer = l; top = a; phase = Running; arguments = xs; tally = t }
+-- what they change beside that instance: the topmost layer, what is counted and recorded, and the arguments of the last one
+pub record Gathered : Type 0 where
+  pub layer : PlainLayer
+  pub tally : PlainTally
+  pub arguments : List ℤ
 
--- the topmost instance's children have names of that length, and none of them is where the strand begins
-pub record IsAmid (depth : ℕ) (s : PlainStrand) : Type 0 where
-  pub size : length s.path + 1 ≡ depth
-  pub entry : (number : ℕ) → entry_by s.start (s.path ++ number ∷ []) ≡ false
+abbrev pub gathered_of : PlainStrand → List ℤ → Gathered
+gathered_of s xs = record { layer = s.layer; tally = s.tally; arguments = xs }
 
--- in whatever strand, the loop's instance comes so far
-abbrev pub RecordsTo : Setting → ℕ → PlainActivation → PlainLayer → PlainTally → List ℤ → PlainActivation → PlainLayer → PlainTally → List ℤ → Type 0
-RecordsTo setting depth a l t xs b m u ys = (s : PlainStrand) → IsAmid depth s → IsStepped setting (with_turns a l t xs s) (with_turns b m u ys s)
+-- a strand that has it, and one with that topmost instance, at a phase
+abbrev pub gathering : Gathered → PlainStrand → PlainStrand
+gathering x s = record s { layer = x.layer; arguments = x.arguments; tally = x.tally }
+
+abbrev pub gathered : Phase → PlainActivation → Gathered → PlainStrand → PlainStrand
+gathered phase a x s = record s { layer = x.layer; top = a; phase = phase; arguments = x.arguments; tally = x.tally }
+
+-- the strand begins in no child of the topmost instance
+abbrev pub IsAmid : PlainStrand → Type 0
+IsAmid s = (number : ℕ) → entry_by s.start (s.path ++ number ∷ []) ≡ false
+
+-- the iteration of that number is recorded, and goes back to its loop's instance, whatever instance that is of a procedure with those slots
+-- and so many levels below it
+abbrev pub IsRecorded : Setting → Loop → ℕ → List Slot → ℕ → ℕ → Gathered → Gathered → Type 0
+IsRecorded setting l p slots left i x y = (a : PlainActivation) (h : Share)
+    → a.procedure ≡ p → a.slots ≡ slots → a.left ≡ left → a.work ≡ Turns l h → h.first ≡ i → (h.count == 0) ≡ false
+    → (s : PlainStrand) → IsAmid s → IsStepped setting (gathered Running a x s) (gathered Running (waiting false None (Turns l (rest_of h)) a) y s)
+
+-- so many iterations from that one on are, one after another
+pub data AreRecorded (setting : Setting) (l : Loop) (p : ℕ) (slots : List Slot) (left : ℕ) (i : ℕ) (x : Gathered) : ℕ → Gathered → Type 0 where
+  none : AreRecorded setting l p slots left i x zero x
+  more : (n : ℕ) (y z : Gathered) → AreRecorded setting l p slots left i x n y → z.tally.opened ≡ y.tally.opened → IsRecorded setting l p slots left (i + n) y z
+      → AreRecorded setting l p slots left i x (suc n) z
 
 -- the arguments of the last of so many iterations
 abbrev pub arguments_then : ℕ → Loop → Share → List ℤ → List ℤ

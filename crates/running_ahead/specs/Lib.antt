@@ -2,3 +2,4 @@ pub mod Ahead
 pub mod Chains
 pub mod Stepped
 pub mod Leaves
+pub mod RecordedHalves

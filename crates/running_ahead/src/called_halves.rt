@@ -34,7 +34,7 @@ use std::alloc::Global;
 use view_pool::View;
 
 // So many iterations at most are done in one go: meanwhile no other worker can take a part of them.
-const MOST: u32 = 64;
+pub(crate) const MOST: u32 = 64;
 
 // So many more children an instance has room for: two halves, or its iterations.
 const CHILDREN: usize = 1024;
@@ -129,10 +129,19 @@ fn may_go<V: View>(machine: &Machine<V>, setting: Setting<'_>, callee: usize) ->
     ensures children { result ≡ true → machine.now.top.children + 1024 < 2 ^ 64 }
     ensures clear { result ≡ true → IsClear 7 machine.now }
 {
-    if setting.program.is_memo(callee) || machine.top.left() == 0 {
+    if setting.program.is_memo(callee) || never_goes_back(setting, callee) {
         return false;
     }
-    if never_goes_back(setting, callee) {
+    has_room(machine)
+}
+
+/// Whether there is a level and there are numbers for the iterations of a half, and the syncs above are passed.
+pub(crate) fn has_room<V: View>(machine: &Machine<V>) -> bool
+    ensures deep { result ≡ true → (machine.now.top.left == 0) ≡ false }
+    ensures children { result ≡ true → machine.now.top.children + 1024 < 2 ^ 64 }
+    ensures clear { result ≡ true → IsClear 7 machine.now }
+{
+    if machine.top.left() == 0 {
         return false;
     }
     let Some(_) = machine.top.children().checked_add(CHILDREN) else {
@@ -236,7 +245,7 @@ fn goes_on(
 }
 
 /// How often so many iterations are halved at most; none where that is more often than is allowed here.
-fn levels(count: u32, grain: u32, halvings: u32) -> Option<usize>
+pub(crate) fn levels(count: u32, grain: u32, halvings: u32) -> Option<usize>
     ensures reached { IfSome result (λ n. count ≤ reach n grain) }
     ensures few { IfSome result (λ n. n ≤ 6) }
     ensures halved { IfSome result (λ n. n ≤ halvings) }
@@ -255,7 +264,7 @@ fn levels(count: u32, grain: u32, halvings: u32) -> Option<usize>
 }
 
 /// So many copies of an instance's slots; none where memory is refused.
-fn copies(
+pub(crate) fn copies(
     top: &Activation,
     spares: &mut Spares,
     alloc: Global,
@@ -280,7 +289,7 @@ fn copies(
 }
 
 /// Keeps copies of slots that nobody needed.
-fn keep_all(spares: &mut Spares, alloc: Global, copies: Vec<Vec<Slot>>) {
+pub(crate) fn keep_all(spares: &mut Spares, alloc: Global, copies: Vec<Vec<Slot>>) {
     for slots in copies {
         keep(spares, alloc, slots);
     }
@@ -292,7 +301,7 @@ fn keep(spares: &mut Spares, alloc: Global, slots: Vec<Slot>) {
 }
 
 /// Both halves of an instance are over, the second of which took its slots.
-fn end_half(top: &mut Activation, spares: &mut Spares, alloc: Global)
+pub(crate) fn end_half(top: &mut Activation, spares: &mut Spares, alloc: Global)
     requires children { top.old.children + 2 < 2 ^ 64 }
     ensures ended { top.new ≡ halved_to top.old }
 {
@@ -302,7 +311,7 @@ fn end_half(top: &mut Activation, spares: &mut Spares, alloc: Global)
 }
 
 /// Goes iteration by iteration, of which so many are over or have begun.
-fn turn_to(top: &mut Activation, part: Part, done: u32)
+pub(crate) fn turn_to(top: &mut Activation, part: Part, done: u32)
     requires fits { ShareFits part.site part.share }
     requires some { done ≤ part.share.count }
     requires children { top.old.children + done < 2 ^ 64 }

@@ -7,6 +7,8 @@ ghost use Rattle.positions.specs.Layers.{PlainLayer};
 ghost use Rattle.positions.specs.Setting.{Setting as PlainSetting};
 ghost use Rattle.positions.specs.Strands.{PlainStrand};
 ghost use Rattle.running_ahead.specs.Chains.{AreTurns, IsClear, Reaches, reach};
+ghost use Rattle.running_ahead.specs.Leaves.{AreRecorded, Gathered, gathering};
+ghost use Rattle.running_ahead.specs.RecordedHalves.{Arrives};
 
 use activations::activation::Activation;
 use activations::shares::{left_of, right_of};
@@ -78,6 +80,14 @@ fn level(
         → IsClear (suc (suc r)) s → s.path ≡ path.old.items → s.below ≡ reverse below.old.items
         → AreTurns setting begun.part.site top.old.procedure top.old.slots top.old.left begun.part.share.first u begun.done v
         → Reaches setting begun.part.site r s begun.part.halvings begun.part.share top.old u v
+        path.new.items (reverse below.new.items) begun.done
+        result.part.halvings result.part.share top.new result.done }
+    ensures arrives { (setting : PlainSetting) (s : PlainStrand) (x y : Gathered) (r : ℕ)
+        → begun.part.grain ≡ (loop_at setting.codes top.old.procedure begun.part.site).grain
+        → begun.part.share.count ≤ reach (suc r) begun.part.grain
+        → IsClear (suc (suc r)) (gathering x s) → s.path ≡ path.old.items → s.below ≡ reverse below.old.items
+        → AreRecorded setting begun.part.site top.old.procedure top.old.slots top.old.left begun.part.share.first x begun.done y
+        → Arrives setting begun.part.site r s begun.part.halvings begun.part.share top.old x y
         path.new.items (reverse below.new.items) begun.done
         result.part.halvings result.part.share top.new result.done }
 {
@@ -221,6 +231,13 @@ pub(crate) fn descend(
         → IsClear (suc (length ready.copies.items)) s → s.path ≡ path.old.items → s.below ≡ reverse below.old.items
         → AreTurns setting ready.part.site top.old.procedure top.old.slots top.old.left ready.part.share.first u done v
         → Reaches setting ready.part.site 0 s ready.part.halvings ready.part.share top.old u v
+        path.new.items (reverse below.new.items) done
+        result.part.halvings result.part.share top.new result.done }
+    ensures arrives { (setting : PlainSetting) (s : PlainStrand) (x y : Gathered)
+        → ready.part.grain ≡ (loop_at setting.codes top.old.procedure ready.part.site).grain
+        → IsClear (suc (length ready.copies.items)) (gathering x s) → s.path ≡ path.old.items → s.below ≡ reverse below.old.items
+        → AreRecorded setting ready.part.site top.old.procedure top.old.slots top.old.left ready.part.share.first x done y
+        → Arrives setting ready.part.site 0 s ready.part.halvings ready.part.share top.old x y
         path.new.items (reverse below.new.items) done
         result.part.halvings result.part.share top.new result.done }
 {

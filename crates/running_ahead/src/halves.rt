@@ -7,6 +7,7 @@ ghost use Rattle.answered_loops.specs.Answered.{is_by_turns};
 ghost use Rattle.running_ahead.specs.Ahead.{IsAhead};
 
 use crate::called_halves::half_at_once;
+use crate::ready::may_record;
 use crate::spawning::Spawning;
 use activations::activation::Activation;
 use activations::code::loop_code;
@@ -20,7 +21,8 @@ use std::mem;
 use view_pool::View;
 
 /// Spawns the first half of the iterations, or goes over to iterations one by one, where no record could answer all of them at once.
-/// Where spawned children are called, few iterations are done in one go, and the first half of more is called.
+/// Where spawned children are called, few iterations are done in one go, and the first half of more is called. Few that may be recorded in
+/// one go are left to that, since they need a kit.
 #[inline(always)]
 #[tactic(auto, using(crate::proofs::Paths::ahead_here))]
 pub(crate) fn halves_ahead<V: View, S: Spawning>(
@@ -45,6 +47,9 @@ pub(crate) fn halves_ahead<V: View, S: Spawning>(
     if !is_halved(machine, setting, site, halvings, share) {
         return halve(machine, alloc, setting, site, halvings, share);
     }
+    if is_left_to_records(machine, setting, site, share) {
+        return false;
+    }
     if spawning.is_called() {
         if half_at_once(machine, alloc, setting, site, halvings, share) {
             return true;
@@ -52,6 +57,18 @@ pub(crate) fn halves_ahead<V: View, S: Spawning>(
         return first_ahead(machine, alloc, setting, site, halvings, share);
     }
     halve(machine, alloc, setting, site, halvings, share)
+}
+
+/// Whether that many iterations may be recorded in one go.
+#[inline(always)]
+fn is_left_to_records<V: View>(
+    machine: &Machine<V>,
+    setting: Setting<'_>,
+    site: Loop,
+    share: Share,
+) -> bool {
+    let code = loop_code(setting.program, machine.top.procedure(), site);
+    may_record(machine, setting.program, code, share.count)
 }
 
 /// Spawns the first half of the iterations, or goes over to iterations one by one.
@@ -103,7 +120,7 @@ fn first_ahead<V: View>(
 
 /// Whether so many iterations are halved.
 #[inline(always)]
-fn is_halved<V: View>(
+pub(crate) fn is_halved<V: View>(
     machine: &Machine<V>,
     setting: Setting<'_>,
     site: Loop,

@@ -26,14 +26,13 @@ use std::alloc::{AllocError, Global};
 use std::mem;
 use view_pool::{Kit, View};
 
-/// An iteration of a loop whose only argument is its number: as an instance of that procedure, which has so many slots, so many levels
-/// below it and a name so long, and does these statements.
+/// An iteration of a loop whose only argument is its number: as an instance of that procedure, which has so many slots and so many levels
+/// below it, and does these statements.
 #[derive(Clone, Copy)]
 pub(crate) struct Leaf<'a> {
     pub(crate) callee: usize,
     pub(crate) size: usize,
     pub(crate) left: u32,
-    pub(crate) depth: usize,
     pub(crate) number: i64,
     pub(crate) body: &'a [Instruction],
 }
@@ -93,7 +92,8 @@ fn close<V: View>(
     ensures own_kinds { own.new.kinds ≡ own.old.kinds }
     ensures values { HaveValues own.old.kinds tally.old.made → HaveValues own.old.kinds tally.new.made }
 {
-    let Ok(opened) = Opened::new(alloc, leaf.callee, &[leaf.number], leaf.left, leaf.depth) else {
+    // (nobody asks for the length of its name: its layer is closed at once)
+    let Ok(opened) = Opened::new(alloc, leaf.callee, &[leaf.number], leaf.left, 0) else {
         return Ok(false);
     };
     if tally.open(opened).is_err() {

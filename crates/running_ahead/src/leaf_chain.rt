@@ -6,26 +6,24 @@ ghost use Rattle.record_theory.specs.Named.{HaveValues};
 ghost use Rattle.positions.specs.Activations.{ShareFits};
 ghost use Rattle.positions.specs.Code.{loop_at};
 ghost use Rattle.activations.specs.Given.{lent, loop_of};
-ghost use Rattle.activations.specs.Turned.{turned_by};
 ghost use Rattle.own_statements.specs.Fills.{IsCounted};
-ghost use Rattle.running_ahead.specs.Leaves.{IsRefusedLeaf, RecordsTo, arguments_then};
+ghost use Rattle.running_ahead.specs.Leaves.{AreRecorded, IsRefusedLeaf, arguments_then, gathered_of};
 
 use crate::leaf::{Leaf, record_leaf};
 use activations::code::{LoopCode, instructions};
 use activations::setting::Setting;
 use activations::shares::{behind, number_of};
-use positions::work::{Loop, Share, Work};
+use positions::work::{Loop, Share};
 use small_steps::machine::Machine;
 use std::alloc::{AllocError, Global};
 use view_pool::{Kit, View};
 
-/// So many of the first iterations of a share of a loop's, whose instances have names so long.
+/// So many of the first iterations of a share of a loop's.
 #[derive(Clone, Copy)]
 pub(crate) struct Stretch {
     pub(crate) site: Loop,
     pub(crate) share: Share,
     pub(crate) most: u32,
-    pub(crate) depth: usize,
 }
 
 /// Records a stretch of iterations one after another, each in a layer of that kit, as far as they do their statements by themselves; how
@@ -40,7 +38,6 @@ pub(crate) fn record_chain<V: View>(
     kit: Kit<V>,
 ) -> Result<(u32, Kit<V>), AllocError>
     requires fits { ShareFits stretch.site stretch.share }
-    requires there { machine.old.top.work ≡ Work.Turns stretch.site stretch.share }
     requires some { stretch.most ≤ stretch.share.count }
     requires found { loop_of code ≡ loop_at setting.program.now.codes machine.old.top.procedure stretch.site }
     requires memo { memo_of setting.program.now.codes code.callee ≡ true }
@@ -50,10 +47,10 @@ pub(crate) fn record_chain<V: View>(
     requires kit { kit ≡ setting.program.now.kinds }
     requires kinds { machine.old.layer.kinds ≡ setting.program.now.kinds }
     requires monoids { All IsMonoid setting.program.now.kinds }
-    ensures records { IfOk result (λ done. RecordsTo (lent setting.entry) stretch.depth
-        machine.old.top machine.old.layer machine.old.tally machine.old.arguments
-        (turned_by done.0 stretch.site stretch.share machine.old.top) machine.new.layer machine.new.tally
-        (arguments_then done.0 stretch.site stretch.share machine.old.arguments)) }
+    ensures records { IfOk result (λ done. AreRecorded (lent setting.entry) stretch.site
+        machine.old.top.procedure machine.old.top.slots machine.old.top.left stretch.share.first
+        (gathered_of machine.old machine.old.arguments) done.0
+        (gathered_of machine.new (arguments_then done.0 stretch.site stretch.share machine.old.arguments))) }
     ensures others { OnOk result
         (machine.new ≡ record machine.old { layer = machine.new.layer; tally = machine.new.tally }) }
     ensures opened { OnOk result (machine.new.tally.opened ≡ machine.old.tally.opened) }
@@ -74,7 +71,6 @@ pub(crate) fn record_chain<V: View>(
             callee,
             size,
             left,
-            depth: stretch.depth,
             number: number_of(stretch.site, behind(stretch.site, stretch.share, done)),
             body,
         };

@@ -10,6 +10,8 @@ mod halves;
 mod leaf;
 mod leaf_chain;
 mod plain;
+mod ready;
+mod recorded_half;
 pub mod recording;
 pub mod spawning;
 pub mod turns;

@@ -4,7 +4,9 @@ use Rattle.std.proofs.lemmas.List.Elements.{All-head, All-tail}
 use Rattle.positions.specs.declared.work.Loop.{Loop}
 use Rattle.positions.specs.Code.{loop_at}
 use Rattle.running_ahead.specs.Chains.{Reaches, reach, under}
+use Rattle.running_ahead.specs.RecordedHalves.{Arrives}
 use Rattle.running_ahead.proofs.Stacked.{reached_here, level_joined}
+use Rattle.running_ahead.proofs.PartsRecorded.{arrived_here, arrivals_more}
 use Rattle.running_ahead.proofs.descent.descend.Goals as goal
 
 pub loop-slots-init : goal.loop-slots-init
@@ -31,6 +33,9 @@ loop-slots-init c =
       reaches = λ setting s u v grain clear path below turns.
           subst (λ (n : ℕ). Reaches setting p.site n s p.halvings p.share c.args.top.now u v c.args.path.now.items (reverse c.args.below.now.items) c.args.done p.halvings p.share c.args.top.now c.args.done) (sym long)
           (reached_here setting p.site (length all) p.halvings p.share c.args.top.now s u v c.args.done c.args.path.now.items (reverse c.args.below.now.items) clear path below turns);
+      arrives = λ setting s x y grain clear path below those.
+          subst (λ (n : ℕ). Arrives setting p.site n s p.halvings p.share c.args.top.now x y c.args.path.now.items (reverse c.args.below.now.items) c.args.done p.halvings p.share c.args.top.now c.args.done) (sym long)
+          (arrived_here setting p.site (length all) p.halvings p.share c.args.top.now s x y c.args.done c.args.path.now.items (reverse c.args.below.now.items) clear path below those);
     }
 
 pub level-begun-requires-clause-slots : goal.level-begun-requires-clause-slots
@@ -85,4 +90,12 @@ loop-slots-preserved c =
           (λ w clear_now turns_now. c.level-begun.ensures.reaches setting (under c.loop-slots.path.items (reverse c.loop-slots.below.items) s) w v (length rest)
           (inv.grain ∙ grain ∙ ap (λ (l : Loop). (loop_at setting.codes c.args.top.now.procedure l).grain) (sym inv.site) ∙ ap (λ (f : ℕ). (loop_at setting.codes f p.site).grain) (sym inv.procedure))
           fits clear_now refl refl turns_now);
+      arrives = λ setting s x y grain clear path below those.
+          arrivals_more setting site p.site inv.site (length rest) (length (into_iter_items c.loop-slots.slots-iterator)) long s c.args.ready.part.halvings c.args.ready.part.share c.args.top.now x y
+          c.loop-slots.path.items (reverse c.loop-slots.below.items) c.args.done p.halvings p.share c.loop-slots.top c.loop-slots.begun.done
+          c.level-begun.new.path.items (reverse c.level-begun.new.below.items) q.halvings q.share c.level-begun.new.top c.level-begun.result.done
+          (inv.arrives setting s x y grain clear path below those)
+          (λ w clear_now those_now. c.level-begun.ensures.arrives setting (under c.loop-slots.path.items (reverse c.loop-slots.below.items) s) w y (length rest)
+          (inv.grain ∙ grain ∙ ap (λ (l : Loop). (loop_at setting.codes c.args.top.now.procedure l).grain) (sym inv.site) ∙ ap (λ (f : ℕ). (loop_at setting.codes f p.site).grain) (sym inv.procedure))
+          fits clear_now refl refl those_now);
     }

@@ -6,6 +6,8 @@ use Rattle.positions.specs.Layers.{PlainLayer}
 use Rattle.positions.specs.Setting.{Setting}
 use Rattle.positions.specs.Strands.{PlainStrand}
 use Rattle.running_ahead.specs.Chains.{AreTurns, IsClear, Reaches, reach}
+use Rattle.running_ahead.specs.Leaves.{AreRecorded, Gathered, gathering}
+use Rattle.running_ahead.specs.RecordedHalves.{Arrives}
 use Rattle.running_ahead.proofs.descent.descend.Given as goal
 
 abbrev pub invariant-loop-slots : goal.invariant-loop-slots
@@ -27,4 +29,8 @@ invariant-loop-slots l = record {
       → IsClear (suc (length l.fn.ready.copies.items)) s → s.path ≡ l.fn.path.items → s.below ≡ reverse l.fn.below.items
       → AreTurns setting l.fn.ready.part.site l.fn.top.procedure l.fn.top.slots l.fn.top.left l.fn.ready.part.share.first u l.fn.done v
       → Reaches setting l.fn.ready.part.site (length (into_iter_items l.slots-iterator)) s l.fn.ready.part.halvings l.fn.ready.part.share l.fn.top u v l.path.items (reverse l.below.items) l.fn.done l.begun.part.halvings l.begun.part.share l.top l.begun.done;
+  arrives : (setting : Setting) (s : PlainStrand) (x y : Gathered) → l.fn.ready.part.grain ≡ (loop_at setting.codes l.fn.top.procedure l.fn.ready.part.site).grain
+      → IsClear (suc (length l.fn.ready.copies.items)) (gathering x s) → s.path ≡ l.fn.path.items → s.below ≡ reverse l.fn.below.items
+      → AreRecorded setting l.fn.ready.part.site l.fn.top.procedure l.fn.top.slots l.fn.top.left l.fn.ready.part.share.first x l.fn.done y
+      → Arrives setting l.fn.ready.part.site (length (into_iter_items l.slots-iterator)) s l.fn.ready.part.halvings l.fn.ready.part.share l.fn.top x y l.path.items (reverse l.below.items) l.fn.done l.begun.part.halvings l.begun.part.share l.top l.begun.done;
 }

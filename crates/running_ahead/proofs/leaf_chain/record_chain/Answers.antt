@@ -1,18 +1,17 @@
-use Rattle.std.proofs.Common.{rules, ◌≡◌, ◌+◌, ◌-◌, ◌<◌, ◌+ℤ◌, ℕ, ℤ, pos, true, refl, ap, ◌∙◌, subst, to_z, of_z, w64}
+use Rattle.std.proofs.Common.{rules, ◌≡◌, ◌+◌, ◌-◌, ◌+ℤ◌, ℕ, ℤ, pos, true, refl, ap, ◌∙◌, subst, to_z, of_z, w64}
 use Rattle.linked_program.specs.CodeView.{slots_of}
 use Rattle.positions.specs.Code.{PlainLoop}
 use Rattle.positions.specs.Strands.{PlainStrand}
 use Rattle.positions.specs.Tallies.{PlainTally}
 use Rattle.activations.specs.Given.{lent, loop_of}
 use Rattle.activations.specs.Turned.{behind}
-use Rattle.running_ahead.specs.Stepped.{here}
-use Rattle.running_ahead.specs.Leaves.{IsLeaf}
+use Rattle.running_ahead.specs.Leaves.{IsLeaf, none, gathered_of}
 use Rattle.running_ahead.proofs.LeafSteps.{none_answers}
 use Rattle.running_ahead.proofs.LeafChains.{leaf_of, one_more}
 use Rattle.running_ahead.proofs.leaf_chain.record_chain.Goals as goal
 
 pub loop-done-init : goal.loop-done-init
-loop-done-init g c = record { records = λ s amid. here; others = refl; opened = refl; kit = c.requires.kit; kinds = refl; values = λ h. h }
+loop-done-init g c = record { records = none; others = refl; opened = refl; kit = c.requires.kit; kinds = refl; values = λ h. h }
 
 pub record_leaf-requires-clause-kit : goal.record_leaf-requires-clause-kit
 record_leaf-requires-clause-kit g c κs within = c.loop-done.invariant.kit
@@ -29,22 +28,20 @@ loop-done-preserved g c =
     let d = c.loop-done.done in
     let before = c.loop-done.machine in
     let after = c.record_leaf.new.machine in
-    let few : d < x.most = search rules in
-    let less : d < x.share.count = search rules in
     let is_done : c.in-Ok-true-default.field-0-0 ≡ true = search rules in
     let n = to_z w64 (of_z w64 c.number_of.result) in
     let share : c.behind.result ≡ behind d x.share = c.behind.ensures.rest in
     let number : n ≡ x.site.low +ℤ pos (x.share.first + d) = search rules in
     let left : c.left-left.result ≡ m.top.left = c.left-left.ensures.left ∙ ap (λ (s : PlainStrand). s.top.left) c.machine.view_is in
-    let given : IsLeaf S (record { callee = j.callee; size = c.slots-size.result; left = c.left-left.result - 1; depth = x.depth; number = n }) before.layer before.tally after.layer after.tally =
+    let given : IsLeaf S (record { callee = j.callee; size = c.slots-size.result; left = c.left-left.result - 1; number = n }) before.layer before.tally after.layer after.tally =
     c.in-Ok-true-default.ensures.leaf is_done in
-    let leaf : IsLeaf S (leaf_of S x.site x.share j m.top x.depth m.top.left d) before.layer before.tally after.layer after.tally =
-    subst (λ (i : ℤ). IsLeaf S (record { callee = j.callee; size = slots_of S.codes j.callee; left = m.top.left - 1; depth = x.depth; number = i }) before.layer before.tally after.layer after.tally) number
-    (subst (λ (k : ℕ). IsLeaf S (record { callee = j.callee; size = slots_of S.codes j.callee; left = k - 1; depth = x.depth; number = n }) before.layer before.tally after.layer after.tally) left
-    (subst (λ (k : ℕ). IsLeaf S (record { callee = j.callee; size = k; left = c.left-left.result - 1; depth = x.depth; number = n }) before.layer before.tally after.layer after.tally) c.slots-size.ensures.slots given)) in
+    let leaf : IsLeaf S (leaf_of S x.site j m.top.left (x.share.first + d)) before.layer before.tally after.layer after.tally =
+    subst (λ (i : ℤ). IsLeaf S (record { callee = j.callee; size = slots_of S.codes j.callee; left = m.top.left - 1; number = i }) before.layer before.tally after.layer after.tally) number
+    (subst (λ (k : ℕ). IsLeaf S (record { callee = j.callee; size = slots_of S.codes j.callee; left = k - 1; number = n }) before.layer before.tally after.layer after.tally) left
+    (subst (λ (k : ℕ). IsLeaf S (record { callee = j.callee; size = k; left = c.left-left.result - 1; number = n }) before.layer before.tally after.layer after.tally) c.slots-size.ensures.slots given)) in
     record {
-      records = one_more S x.site x.share j m.top x.depth c.requires.there c.requires.found c.requires.memo c.requires.deep c.requires.counted (none_answers S c.requires.no_records)
-          m.layer m.tally m.arguments d before.layer after.layer before.tally after.tally less c.loop-done.invariant.records leaf;
+      records = one_more S x.site j m.top.procedure m.top.slots m.top.left c.requires.found c.requires.memo c.requires.deep c.requires.counted (none_answers S c.requires.no_records)
+          x.share m.arguments (gathered_of m m.arguments) d before.layer after.layer before.tally after.tally c.loop-done.invariant.records leaf;
       others = c.in-Ok-true-default.ensures.others is_done ∙ ap (λ (z : PlainStrand). record z { layer = after.layer; tally = after.tally }) c.loop-done.invariant.others;
       opened = ap (λ (t : PlainTally). t.opened) leaf.tally ∙ c.loop-done.invariant.opened;
       kit = c.in-Ok-true-default.ensures.kit;
