@@ -16,20 +16,22 @@ use input_tables::Tables;
 use linked_program::checked::Checked;
 use rerun_records::records::Records;
 use running_ahead::recording::record_ahead;
+use running_ahead::spawning::Spawning;
 use std::alloc::{AllocError, Global};
 use view_pool::{Kit, KitSource, View};
 
 impl<V: View> Strand<V> {
     /// Where a loop over a memo procedure is next, and there are no records yet: does its next iterations in one go, as many as do all of
-    /// their statements by themselves, each in a layer of its own that becomes a record. A kit is taken for that, and given back. Where
-    /// memory is refused the strand can't go on.
+    /// their statements by themselves, each in a layer of its own that becomes a record; those of a half only where spawned children are
+    /// called. A kit is taken for that, and given back. Where memory is refused the strand can't go on.
     #[inline(always)]
-    pub fn record_ahead<K: KitSource<Kit<V>>>(
+    pub fn record_ahead<S: Spawning, K: KitSource<Kit<V>>>(
         &mut self,
         alloc: Global,
         program: &Checked,
         tables: &Tables,
         records: &Records,
+        spawning: &mut S,
         kits: &mut K,
     ) -> Result<(), AllocError>
         requires kinds { self.old.layer.kinds ≡ program.now.kinds }
@@ -60,6 +62,6 @@ impl<V: View> Strand<V> {
             tables,
             records,
         };
-        record_ahead(&mut self.machine, alloc, setting, kits)
+        record_ahead(&mut self.machine, alloc, setting, spawning, kits)
     }
 }

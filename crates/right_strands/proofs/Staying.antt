@@ -18,7 +18,7 @@ use Rattle.right_strands.specs.Staying.{HasRest, LeavesAll, MayMeet, StrandsStay
 use Rattle.right_strands.proofs.Alone.{all_left}
 use Rattle.right_strands.proofs.Cuts.{alone_right}
 use Rattle.right_strands.proofs.Steps.{step_right, first_right}
-use Rattle.right_strands.proofs.Ways.{on_way}
+use Rattle.right_strands.proofs.Ways.{on_way, on_steps}
 use Rattle.right_strands.proofs.Moves.{inlined_right, detached_right, task_right, stolen_right, resumed_right}
 use Rattle.right_strands.proofs.Joins.{over_joined}
 use Rattle.right_strands.proofs.Ends.{laid_ends}
@@ -76,6 +76,7 @@ module _ (setting : Setting) where
     advances = λ kit free s t e step h. (step_right setting ready numbered kit free s t e step h).right;
     runs_ahead = λ s t p h. (on_way setting ready numbered s t p h).right;
     answers_ahead = λ s t p h. (on_way setting ready numbered s t p h).right;
+    records_ahead = λ s t p h. (on_steps setting ready numbered s t p h).right;
     inlines = λ s t e is f h. subst (IsRightBy setting) (sym is) (inlined_right setting s e (subst (IsInlined setting s) is f) h);
     detaches = λ s t task e is f h. subst (IsRightBy setting) (sym is) (detached_right setting s task e (subst (λ u. IsDetached setting s u task) is f) h);
     continues = λ s t task e at is f h. task_right setting s task e at (subst (λ u. IsDetached setting s u task) is f) h;

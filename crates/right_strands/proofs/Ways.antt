@@ -40,7 +40,7 @@ way_kept setting p e r set s s' steps kinds start failed h =
     on_way (recalling setting k) (set.ready k) set.numbered s s' (subst (λ (i : Setting). IsWayOf i s s') (set_with setting p e r set k) (steps k.kept (kept_with setting p e r set k) set.names)) in
     record { kinds = kinds ∙ h.kinds; right = λ n k. (goes k (h.right n k)).right; begins = λ n. h.begins n ∙ (goes set.sound (h.right n set.sound)).begins }
 
--- ---- many small steps where a kit is free
+-- ---- many small steps where a kit is free, and where spawned children may be made calls
 
 pub on_steps : (i : Setting) → IsReady i.program i.tables i.memory → IsNumbered i.program → (s t : PlainStrand) → AreStepsOf i s t → IsRightBy i s → GoesOn i s t
 on_steps i ready numbered s t stepped.here h = record { right = h; begins = refl }
@@ -48,6 +48,10 @@ on_steps i ready numbered s t (stepped.on u v p e step) h =
     let before : GoesOn i s u = on_steps i ready numbered s u p h in
     let after : GoesOn i u v = step_right i ready numbered true true u v e step.step before.right in
     record { right = after.right; begins = before.begins ∙ after.begins }
+on_steps i ready numbered s t (stepped.as_call u v p spawn e called) h =
+    let before : GoesOn i s u = on_steps i ready numbered s u p h in
+    let after : IsRightBy i (moves.inlined u) = inlined_right i u spawn (subst (IsInlined i u) e called) before.right in
+    record { right = subst (IsRightBy i) (sym e) after; begins = before.begins ∙ ap (λ (x : PlainStrand). x.start) (sym e) }
 
 pub steps_kept : (setting : Setting) (p : PlainChecked) (e : Edited) (r : List PlainRecord) → IsSet setting p e r → (s s' : PlainStrand) → ((kept : List Kept) → AreKept p kept r → HasItsTables (setting_with p e.tables kept r) → AreStepsOf (setting_with p e.tables kept r) s s')
     → s'.layer.kinds ≡ s.layer.kinds → (start : Start) (failed : Bool) → IsHeld setting start failed s → IsHeld setting start failed s'

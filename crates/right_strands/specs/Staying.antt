@@ -27,6 +27,7 @@ use Rattle.positions.specs.Moves.{inlined, detached, attached, resumed, lowest_a
 use Rattle.positions.specs.Simulation.{IsFirst, IsSmallStep, IsInlined, IsDetached, IsStolen, IsResumed, place_of}
 use Rattle.positions.specs.Stands.{StandsFor}
 use Rattle.answered_loops.specs.Ways.{IsWayOf}
+use Rattle.running_ahead.specs.Stepped.{AreStepsOf}
 use Rattle.strand_moves.specs.Joins.{HasFault}
 use Rattle.frames.specs.Answers.{ending_of, IsAnswer}
 use Rattle.positions.specs.declared.answer.RunAnswer.{RunAnswer}
@@ -104,6 +105,7 @@ module _ (setting : Setting) where
         → IsRightBy setting t
     pub runs_ahead : (s t : PlainStrand) → IsWayOf setting s t → IsRightBy setting s → IsRightBy setting t
     pub answers_ahead : (s t : PlainStrand) → IsWayOf setting s t → IsRightBy setting s → IsRightBy setting t
+    pub records_ahead : (s t : PlainStrand) → AreStepsOf setting s t → IsRightBy setting s → IsRightBy setting t
     pub inlines : (s t : PlainStrand) → s.phase ≡ AtSpawn → t ≡ inlined s → IsInlined setting s t → IsRightBy setting s → IsRightBy setting t
     pub detaches : (s t : PlainStrand) (task : PlainTask) → s.phase ≡ AtSpawn → t ≡ detached s → IsDetached setting s t task
         → IsRightBy setting s → IsRightBy setting t

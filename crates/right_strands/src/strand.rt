@@ -176,13 +176,14 @@ impl<J: Run, V: View> RightStrand<J, V> {
     }
 
     /// Where a loop over a memo procedure is next, and there are no records yet: does its next iterations in one go, as many as do all of
-    /// their statements by themselves, each in a layer of its own that becomes a record. A kit is taken for that, and given back. Where
-    /// memory is refused the strand has failed.
+    /// their statements by themselves, each in a layer of its own that becomes a record; those of a half only where spawned children are
+    /// called. A kit is taken for that, and given back. Where memory is refused the strand has failed.
     #[inline(always)]
-    pub fn record_ahead<K: KitSource<Kit<V>>>(
+    pub fn record_ahead<S: Spawning, K: KitSource<Kit<V>>>(
         &mut self,
         alloc: Global,
         scene: &Scene<'_, J>,
+        spawning: &mut S,
         kits: &mut K,
     ) -> Result<(), AllocError>
         requires given_kinds { (k : List Kind) → K.gives k kits.old → k ≡ J.setting.kinds }
@@ -200,10 +201,14 @@ impl<J: Run, V: View> RightStrand<J, V> {
         ensures given_kinds { (k : List Kind) → K.gives k kits.new → k ≡ J.setting.kinds }
         ensures without_kit { GivesNone K.gives kits.old → self.new.strand ≡ self.old.strand }
     {
-        match self
-            .strand
-            .record_ahead(alloc, scene.program, scene.tables, scene.records, kits)
-        {
+        match self.strand.record_ahead(
+            alloc,
+            scene.program,
+            scene.tables,
+            scene.records,
+            spawning,
+            kits,
+        ) {
             Ok(()) => Ok(()),
             Err(error) => {
                 self.failed = true;

@@ -158,6 +158,7 @@ stays_way setting s t (as_call u v p spawn e) = ap spot_of e ∙ stays_way setti
 pub stays_steps : (setting : Setting) (s t : PlainStrand) → IsStepped setting s t → spot_of t ≡ spot_of s
 stays_steps setting s t stepped.here = refl
 stays_steps setting s t (stepped.on u v p e) = ap spot_of e ∙ stays setting true u ∙ stays_steps setting s u p
+stays_steps setting s t (stepped.as_call u v p spawn e) = ap spot_of e ∙ stays_steps setting s u p
 
 pub stays_on : {A E : Type 0} (r : Result A E) (setting : Setting) (s t : PlainStrand) → OnOk r (IsStepped setting s t) → OnOk r (spot_of t ≡ spot_of s)
 stays_on (Ok a) setting s t h = stays_steps setting s t h

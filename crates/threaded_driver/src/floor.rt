@@ -225,7 +225,7 @@ impl<J: Run + Ledger + Stocked + Send, D: Deques, V: View> Floor<'_, J, D, V> {
         let mut spawned = Spawned::new(seat.holds_enough());
         for _ in 0..steps {
             self.steps_ahead(number, is_watched, is_alone, &mut spawned, strand, gate)?;
-            self.record_ahead(is_watched || is_alone, strand, supply)?;
+            self.record_ahead(is_watched || is_alone, &mut spawned, strand, supply)?;
             match strand.advance(self.alloc, &self.scene, supply)? {
                 Paused::Working => {}
                 paused => return Ok(paused),
@@ -273,12 +273,14 @@ impl<J: Run + Ledger + Stocked + Send, D: Deques, V: View> Floor<'_, J, D, V> {
         Ok(())
     }
 
-    /// Iterations that are recorded in one go, unless steps are done one by one. Want of memory is the only error.
+    /// Iterations that are recorded in one go, unless steps are done one by one or there are records, which may answer some of them; those
+    /// of a half where spawned children are called. Want of memory is the only error.
     #[inline(always)]
     #[tactic(auto, using(crate::proofs::Staying::stays_on))]
     fn record_ahead<R: Wait>(
         &self,
         one_by_one: bool,
+        spawned: &mut Spawned,
         strand: &mut RightStrand<J, V>,
         supply: &mut Supply<'_, Desk<J, D, V>, Kit<V>, KitsOf<J>, R>,
     ) -> Result<(), AllocError>
@@ -286,10 +288,10 @@ impl<J: Run + Ledger + Stocked + Send, D: Deques, V: View> Floor<'_, J, D, V> {
         ensures kits { kits_of strand.new.strand + supply.new.free ≡ most }
         ensures spot { OnOk result (spot_of strand.new.strand ≡ spot_of strand.old.strand) }
     {
-        if one_by_one {
+        if one_by_one || self.has_records {
             return Ok(());
         }
-        strand.record_ahead(self.alloc, &self.scene, supply)
+        strand.record_ahead(self.alloc, &self.scene, spawned, supply)
     }
 
     /// At a spawn: puts the continuation off and goes on with the child, or makes the child a call where the deque holds enough or
