@@ -17,4 +17,7 @@ module _ (J V : RattleType) (run : Run.Ghosts J.Denot) (view : View.Ghosts V.Den
   piece_send = let s = right_strand_send in search (sendable, crosses) depth 40
 
   pub pair_send : IsSend (Pair.the_row J V run view)
-  pair_send = let s = strand_send V view v in search (sendable, crosses) depth 40
+  pair_send =
+      let s = strand_send V view v in
+      let r = right_strand_send in
+      search (sendable, crosses) depth 40

@@ -324,3 +324,11 @@ module _ (setting : Setting) where
     pair = λ k. subst (λ l. IsPair (recalling setting k) l r') (sym a) (subst (λ r. IsPair (recalling setting k) (with_worths l'.layer.worths l) r) (sym b) (half_pair (recalling setting k) l r l'.layer.worths r'.layer.worths e (h.pair k)));
     begins = h.begins ∙ ap (λ (s : PlainStrand). s.start) (sym a);
   }
+
+  -- reducers' values have moved: by itself the left one isn't known to be right
+  pub half_held : (l l' : PlainStrand) (given : Start) (failed : Bool) → l' ≡ with_worths l'.layer.worths l → IsHeld setting given failed l → IsHeld setting given true l'
+  half_held l l' given failed e h = record {
+    kinds = ap (λ (s : PlainStrand). s.layer.kinds) e ∙ h.kinds;
+    right = λ n. absurd cc;
+    begins = λ n. absurd cc;
+  }

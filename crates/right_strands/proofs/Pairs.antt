@@ -1,5 +1,5 @@
 -- Two pieces that may be joined are a pair.
-use Rattle.std.proofs.Common.{◌≡◌, ◌⊎◌, inl, inr, ◌&&◌, ℤ, true, [], refl, sym, ap, ◌∙◌, subst}
+use Rattle.std.proofs.Common.{◌≡◌, ◌⊎◌, inl, inr, ◌&&◌, ℤ, true, List, [], ◌∷◌, refl, sym, ap, ◌∙◌, subst}
 use Rattle.meaning.specs.SmallStep.{same_name}
 use Rattle.strand_theory.proofs.Names.{both_are}
 use Rattle.positions.specs.declared.phase.Phase.TheVariants.{Leaving, Broken}
@@ -15,7 +15,7 @@ use Rattle.right_strands.specs.Rightness.{IsRightBy, IsRightStrand}
 use Rattle.strand_list.specs.declared.laid_state.LaidState.{LaidState}
 use Rattle.strand_list.specs.declared.laid_state.LaidState.TheVariants as laid_state
 use Rattle.right_strands.specs.Laid.{PlainPiece, IsPausedAs}
-use Rattle.right_strands.specs.Pairs.{StopsBroken, IsPair, IsPairFrom, is_over, is_waiting, frees, may_follow, may_pair}
+use Rattle.right_strands.specs.Pairs.{StopsBroken, IsPair, IsPairFrom, IsPairIn, is_over, is_waiting, frees, may_follow, may_pair}
 use Rattle.right_strands.proofs.Points.{fault_is}
 use Rattle.right_strands.proofs.Waiting.{waiting_decided}
 use Rattle.right_strands.proofs.Joins.{stalled_alone}
@@ -100,3 +100,8 @@ pair_of setting l r s t start a b c hl hr over waits may = record {
   pair = λ k. subst (λ s. IsPair (recalling setting k) s t) (sym a) (subst (IsPair (recalling setting k) l.strand) (sym b) (pair_there (recalling setting k) l r (lies_at setting k l hl) (lies_at setting k r hr) over waits may));
   begins = c ∙ ap (λ (s : PlainStrand). s.start) (sym a);
 }
+
+-- ---- where the right one lies in a list of one
+
+pub pair_in : (setting : Setting) (start : Start) (l r : PlainStrand) (rs : List PlainStrand) → rs ≡ r ∷ [] → IsPairFrom setting start l r → IsPairIn setting start l rs
+pair_in setting start l r rs e h = subst (IsPairIn setting start l) (sym e) (record { one = refl; pair = h })

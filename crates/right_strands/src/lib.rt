@@ -4,6 +4,7 @@
 pub mod laid;
 pub mod laws;
 pub mod pair;
+pub mod room;
 pub mod run;
 pub mod strand;
 pub mod task;

@@ -4,32 +4,31 @@ ghost use Rattle.positions.specs.Moves.{joined};
 ghost use Rattle.right_strands.specs.Pairs.{IsStill, is_over, is_waiting, frees, may_pair};
 
 use crate::laid::{LaidState, Piece};
+use crate::room::Room;
 use crate::run::{Run, Scene};
 use crate::strand::RightStrand;
-use frames::strand::Strand;
 use positions::start::Start;
 use std::alloc::AllocError;
-use std::marker::{Model, PhantomData};
+use std::marker::Model;
 use view_pool::{Kit, View};
 
 /// Two neighbours that may become one, and where the left one begins. Where a joining was refused for memory some reducers have
-/// moved from the right one to the left.
+/// moved from the right one to the left. The right one lies where it can be put back without memory.
 #[derive(Drop)]
 pub struct Pair<J: Run, V: View = Box<dyn View>> {
-    left: Strand<V>,
-    right: Strand<V>,
+    left: Box<RightStrand<J, V>>,
+    right: Room<V>,
     start: Start,
-    of: PhantomData<J>,
 }
 
 impl<J: Run, V: View> Model for Pair<J, V> {
-    ghost use Rattle.right_strands.specs.Pairs.{PlainPair, IsPairFrom};
+    ghost use Rattle.right_strands.specs.Pairs.{PlainPair, IsPairIn, right_of};
 
     ghost Value = { PlainPair };
 
-    ghost view = { λ p. record { left = p.left; right = p.right } };
+    ghost view = { λ p. record { left = p.left.value.strand; right = right_of p.left.value.strand p.right } };
 
-    ghost invariant = { λ p. IsPairFrom J.setting p.start p.left p.right };
+    ghost invariant = { λ p. IsPairIn J.setting p.start p.left.value.strand p.right };
 }
 
 impl<J: Run, V: View> Piece<J, V> {
@@ -63,28 +62,29 @@ impl<J: Run, V: View> Piece<J, V> {
         ensures freed { result ≡ frees self.now.state left.now.strand self.now.strand }
     {
         match self.state {
-            LaidState::Stalled => self.strand.leaves_none_waiting(&left.strand),
+            LaidState::Stalled => self.strand.leaves_none_waiting(&*left.strand),
             _ => true,
         }
     }
 }
 
 impl<J: Run, V: View> Pair<J, V> {
-    /// Two pieces that may become one strand.
-    pub fn new(left: Piece<J, V>, right: Piece<J, V>) -> Pair<J, V>
+    /// Two pieces that may become one strand, with room in which nothing lies yet.
+    pub fn new(left: Piece<J, V>, right: Piece<J, V>, room: Room<V>) -> Pair<J, V>
         requires over { is_over left.state ≡ true }
         requires waits { is_waiting right.state ≡ true }
         requires may { may_pair left right ≡ true }
+        requires none { room ≡ [] }
         ensures pair { result ≡ record { left = left.strand; right = right.strand } }
     {
         let start = left.start();
-        let left = left.into_strand();
-        let right = right.into_strand();
+        let left = left.into_box();
+        let mut room = room;
+        room.put(right.into_strand());
         Pair {
             left,
-            right,
+            right: room,
             start,
-            of: PhantomData,
         }
     }
 
@@ -93,40 +93,32 @@ impl<J: Run, V: View> Pair<J, V> {
     pub fn join(
         self,
         scene: &Scene<'_, J>,
-    ) -> Result<(RightStrand<J, V>, Kit<V>), (AllocError, Pair<J, V>)>
-        ensures joined { IfOk result (λ r. r.0
+    ) -> Result<(Box<RightStrand<J, V>>, Kit<V>), (AllocError, Pair<J, V>)>
+        ensures joined { IfOk result (λ r. r.0.value
             ≡ record { strand = joined self.left self.right; failed = false }) }
         ensures kit { IfOk result (λ r. r.1 ≡ J.setting.kinds) }
         ensures one_layer { IfOk result (λ r. self.right.lower ≡ []) }
         ensures still { IfErr result (λ e. IsStill self e.1) }
     {
-        // The setting's records are sound: so the two are neighbours that may become one.
-        scene.upheld();
         let Pair {
             mut left,
-            right,
+            right: mut room,
             start,
-            of: _,
         } = self;
-        match left.join(right) {
-            Ok(kit) => Ok((
-                RightStrand {
-                    strand: left,
-                    start,
-                    failed: false,
-                    of: PhantomData,
-                },
-                kit,
-            )),
-            Err((error, right)) => Err((
-                error,
-                Pair {
-                    left,
-                    right,
-                    start,
-                    of: PhantomData,
-                },
-            )),
+        let right = room.take();
+        match left.join(scene, start, right) {
+            Ok(kit) => Ok((left, kit)),
+            Err((error, right)) => {
+                room.put(right);
+                Err((
+                    error,
+                    Pair {
+                        left,
+                        right: room,
+                        start,
+                    },
+                ))
+            }
         }
     }
 }

@@ -3,7 +3,7 @@ ghost use Rattle.std.specs.Prelude.{◌≡◌, ◌∷◌, ◌++◌, ◌+◌, ◌
 ghost use Rattle.monoid_laws.specs.declared.Kind.{Kind};
 ghost use Rattle.meaning.specs.SmallStep.{same_name};
 ghost use Rattle.positions.specs.Advance.{advanced, pause_of};
-ghost use Rattle.positions.specs.Moves.{inlined, detached, attached, resumed, stolen, lowest_alone, at_update};
+ghost use Rattle.positions.specs.Moves.{inlined, detached, attached, resumed, stolen, joined, lowest_alone, at_update};
 ghost use Rattle.positions.specs.Simulation.{IsFirst, place_of};
 ghost use Rattle.answered_loops.specs.Ways.{IsWay};
 ghost use Rattle.strand_moves.specs.Joins.{HasFault};
@@ -11,6 +11,7 @@ ghost use Rattle.small_steps.specs.Steps.{GivesNone, HoldsFor};
 ghost use Rattle.activations.specs.Waiting.{leaves_none};
 ghost use Rattle.running_ahead.specs.Stepped.{IsStepped};
 ghost use Rattle.right_strands.specs.Rightness.{FitsHere, IsRightStrand, WasDetached};
+ghost use Rattle.right_strands.specs.Pairs.{IsPairFrom, IsStill};
 
 use crate::run::{Run, Scene};
 use crate::task::RightTask;
@@ -315,6 +316,39 @@ impl<J: Run, V: View> RightStrand<J, V> {
         ensures total { K.total kits.new ≡ K.total kits.old }
     {
         self.strand.close_upper(kits);
+    }
+
+    /// Puts its right neighbour behind it, where the two are a pair and it begins there, and gives the right one's kit. Where memory is
+    /// refused the right one is handed back, which is its pair still, but by itself the strand has failed then.
+    pub(crate) fn join(
+        &mut self,
+        scene: &Scene<'_, J>,
+        start: Start,
+        right: Strand<V>,
+    ) -> Result<Kit<V>, (AllocError, Strand<V>)>
+        requires pair { IsPairFrom J.setting start self.old.strand right }
+        ensures joined { OnOk result (self.new
+            ≡ record { strand = joined self.old.strand right; failed = false }) }
+        ensures kit { IfOk result (λ kit. kit ≡ J.setting.kinds) }
+        ensures one_layer { right.lower ≡ [] }
+        ensures pair { IfErr result (λ e. IsPairFrom J.setting start self.new.strand e.1) }
+        ensures still { IfErr result (λ e. IsStill
+            (record { left = self.old.strand; right = right })
+            (record { left = self.new.strand; right = e.1 })) }
+    {
+        // The setting's records are sound: so the two are neighbours that may become one.
+        scene.upheld();
+        match self.strand.join(right) {
+            Ok(kit) => {
+                self.start = start;
+                self.failed = false;
+                Ok(kit)
+            }
+            Err((error, right)) => {
+                self.failed = true;
+                Err((error, right))
+            }
+        }
     }
 
     /// How many kits it has: one for each of its layers.

@@ -1,5 +1,5 @@
 -- Which refusals calls of a book give.
-use Rattle.std.proofs.Common.{◌≡◌, ℕ, suc, Bool, true, false, cond, ◌&&◌, ◌||◌, List, [], ◌∷◌, drop, Option, Some, None, Result, Ok, Err, IfErr, OnOk, refl, ap, ◌∙◌, bytes_eq}
+use Rattle.std.proofs.Common.{◌≡◌, ℕ, suc, Bool, true, false, cond, ◌&&◌, ◌||◌, List, [], ◌∷◌, drop, Option, Some, None, Result, Ok, Err, IfErr, OnOk, refl, ap, sym, ◌∙◌, subst, bytes_eq}
 use Rattle.std.proofs.lemmas.Slice.Eq.{bytes_eq-Decides}
 use Rattle.meaning.specs.Outcome.{Place}
 use Rattle.meaning.specs.Strands.{Line, Book, Split, Fold, done, waits, is_held_at, stepped}
@@ -158,9 +158,43 @@ touches l r (x ∷ y ∷ ls) (d ∷ ds) a e = by (folds_here (x ∷ y ∷ ls) (d
         let i = rest g in
         later (position l (y ∷ ls)) d ds (bytes_eq x.0 l) (bytes_eq y.0 r) next (away (bytes_eq x.0 l) refl (both_are next (may_touch (drop (position l (y ∷ ls)) ds)) i).0) i
 
-first_touches : (b : PlainBook) (l r : Place) → IsBook b.chronicle b.laid → first_fold b ≡ Some (l, r) → touch b l r ≡ true
+pub first_touches : (b : PlainBook) (l r : Place) → IsBook b.chronicle b.laid → first_fold b ≡ Some (l, r) → touch b l r ≡ true
 first_touches b l r h e = touches l r b.chronicle.page.lines b.laid (apart_of b.chronicle b.laid h) e
 
 pub first_near : {A : Type 0} (b : PlainBook) (l r : Place) (w : ℕ) (o : Result A BookError) → IsBook b.chronicle b.laid → first_fold b ≡ Some (l, r) → IfErr o (IsRefusedBy (fold_refusal b l r w)) → IfErr o (λ e. is_apart e ≡ false)
 first_near b l r w (Ok a) h e r' = tt
 first_near b l r w (Err e') h e r' = near e' (fold_refusal b l r w) (fold_passes b l r w (first_touches b l r h e)) r'
+
+-- ---- two that touch are in the list
+
+or_right : (a b : Bool) → b ≡ true → (a || b) ≡ true
+or_right true b e = refl
+or_right false b e = e
+
+and_true : (a b : Bool) → a ≡ true → b ≡ true → (a && b) ≡ true
+and_true true b e f = f
+and_true false b e f = absurd cc
+
+both_later : (a b c p q : Bool) → (p && (b || q)) ≡ true → ((a || p) && (c || (b || q))) ≡ true
+both_later a b c p q h = let two = both_are p (b || q) h in and_true (a || p) (c || (b || q)) (or_right a p two.0) (or_right c (b || q) two.1)
+
+both_by : (a b c p q n : Bool) → ((a && b) || n) ≡ true → (n ≡ true → (p && (b || q)) ≡ true) → ((a || p) && (c || (b || q))) ≡ true
+both_by true true c p q n e h = or_right c true refl
+both_by true false c p q n e h = both_later true false c p q (h e)
+both_by false b c p q n e h = both_later false b c p q (h e)
+
+both_there : (l r : Place) (ls : List Line) → are_neighbours l r ls ≡ true → (has_strand l ls && has_strand r ls) ≡ true
+both_there l r [] e = absurd cc
+both_there l r (x ∷ []) e = absurd cc
+both_there l r (x ∷ y ∷ ls) e =
+    both_by (bytes_eq x.0 l) (bytes_eq y.0 r) (bytes_eq x.0 r) (has_strand l (y ∷ ls)) (has_strand r ls) (are_neighbours l r (y ∷ ls)) e (both_there l r (y ∷ ls))
+
+-- so a fold of them is refused only where the list doesn't allow it, or for want of memory
+pub refused_there : (b : PlainBook) (l r : Place) (w : ℕ) (e : BookError) → touch b l r ≡ true → IsRefusedBy (unless_allowed (stepped b.chronicle.page (Fold l r w))) e → IsRefusedBy (fold_refusal b l r w) e
+refused_there b l r w e t h =
+    let ls = b.chronicle.page.lines in
+    let next = both_are (are_neighbours l r ls) (may_touch (drop (position l ls) b.laid)) t in
+    let passes : fold_refusal b l r w ≡ unless_allowed (stepped b.chronicle.page (Fold l r w)) =
+    ap (λ s. unless s error.NoStrand (unless (touch b l r) error.NotNeighbour (unless_allowed (stepped b.chronicle.page (Fold l r w))))) (both_there l r ls next.0)
+    ∙ ap (λ s. unless s error.NotNeighbour (unless_allowed (stepped b.chronicle.page (Fold l r w)))) t in
+    subst (λ (o : Option BookError). IsRefusedBy o e) (sym passes) h

@@ -8,6 +8,7 @@ use numbered_runs::step::{BookStep, Place, StrandLine};
 use positions::answer::RunAnswer;
 use right_strands::laid::Piece;
 use right_strands::pair::Pair;
+use right_strands::room::Room;
 use right_strands::run::{Run, Scene};
 use right_strands::strand::RightStrand;
 use std::alloc::{AllocError, Global};
@@ -303,14 +304,14 @@ impl<J: Run, V: View> Book<J, V> {
         left: &[usize],
         right: &[usize],
         worker: usize,
-    ) -> Result<(RightStrand<J, V>, Kit<V>), Refusal>
+    ) -> Result<(Box<RightStrand<J, V>>, Kit<V>), Refusal>
         ensures taken { OnOk result
             (Took self.old.chronicle (Fold left.now right.now worker) self.new.chronicle) }
         ensures joined { IfOk result
-            (λ r. BecomeOne self.old left.now r.0.strand) }
-        ensures going { IfOk result (λ r. r.0.failed ≡ false) }
+            (λ r. BecomeOne self.old left.now r.0.value.strand) }
+        ensures going { IfOk result (λ r. r.0.value.failed ≡ false) }
         ensures kit { IfOk result (λ r. r.1 ≡ J.setting.kinds) }
-        ensures counted { IfOk result (λ r. TakesUp r.0.strand self.old.laid self.new.laid) }
+        ensures counted { IfOk result (λ r. TakesUp r.0.value.strand self.old.laid self.new.laid) }
         ensures refused { IfErr result
             (IsRefusedBy (fold_refusal self.old left.now right.now worker)) }
         ensures same { OnErr result (self.new.chronicle ≡ self.old.chronicle) }
@@ -333,14 +334,14 @@ impl<J: Run, V: View> Book<J, V> {
         left: &[usize],
         right: &[usize],
         worker: usize,
-    ) -> Result<(RightStrand<J, V>, Kit<V>), BookError>
+    ) -> Result<(Box<RightStrand<J, V>>, Kit<V>), BookError>
         ensures taken { OnOk result
             (Took self.old.chronicle (Fold left.now right.now worker) self.new.chronicle) }
         ensures joined { IfOk result
-            (λ r. BecomeOne self.old left.now r.0.strand) }
-        ensures going { IfOk result (λ r. r.0.failed ≡ false) }
+            (λ r. BecomeOne self.old left.now r.0.value.strand) }
+        ensures going { IfOk result (λ r. r.0.value.failed ≡ false) }
         ensures kit { IfOk result (λ r. r.1 ≡ J.setting.kinds) }
-        ensures counted { IfOk result (λ r. TakesUp r.0.strand self.old.laid self.new.laid) }
+        ensures counted { IfOk result (λ r. TakesUp r.0.value.strand self.old.laid self.new.laid) }
         ensures refused { IfErr result
             (IsRefusedBy (fold_refusal self.old left.now right.now worker)) }
         ensures same { OnErr result (self.new.chronicle ≡ self.old.chronicle) }
@@ -364,15 +365,46 @@ impl<J: Run, V: View> Book<J, V> {
         left: &[usize],
         right: &[usize],
         worker: usize,
-    ) -> Result<(RightStrand<J, V>, Kit<V>), BookError>
+    ) -> Result<(Box<RightStrand<J, V>>, Kit<V>), BookError>
         requires touch { touch self.old left.now right.now ≡ true }
         ensures taken { OnOk result
             (Took self.old.chronicle (Fold left.now right.now worker) self.new.chronicle) }
         ensures joined { IfOk result
-            (λ r. BecomeOne self.old left.now r.0.strand) }
-        ensures going { IfOk result (λ r. r.0.failed ≡ false) }
+            (λ r. BecomeOne self.old left.now r.0.value.strand) }
+        ensures going { IfOk result (λ r. r.0.value.failed ≡ false) }
         ensures kit { IfOk result (λ r. r.1 ≡ J.setting.kinds) }
-        ensures counted { IfOk result (λ r. TakesUp r.0.strand self.old.laid self.new.laid) }
+        ensures counted { IfOk result (λ r. TakesUp r.0.value.strand self.old.laid self.new.laid) }
+        ensures refused { IfErr result
+            (IsRefusedBy (unless_allowed (stepped self.old.chronicle.page (Fold left.now right.now worker)))) }
+        ensures same { OnErr result (self.new.chronicle ≡ self.old.chronicle) }
+        ensures kept { IfErr result
+            (λ e. KeepsStrands self.old left.now e self.new) }
+    {
+        match Room::new(alloc) {
+            Ok(room) => self.fold_in(room, alloc, scene, left, right, worker),
+            Err(AllocError) => Err(BookError::NoMemory),
+        }
+    }
+
+    /// Two neighbours that may be one strand, as far as what is kept of them says, become one, or a pair in that room.
+    fn fold_in(
+        &mut self,
+        room: Room<V>,
+        alloc: Global,
+        scene: &Scene<'_, J>,
+        left: &[usize],
+        right: &[usize],
+        worker: usize,
+    ) -> Result<(Box<RightStrand<J, V>>, Kit<V>), BookError>
+        requires none { room ≡ [] }
+        requires touch { touch self.old left.now right.now ≡ true }
+        ensures taken { OnOk result
+            (Took self.old.chronicle (Fold left.now right.now worker) self.new.chronicle) }
+        ensures joined { IfOk result
+            (λ r. BecomeOne self.old left.now r.0.value.strand) }
+        ensures going { IfOk result (λ r. r.0.value.failed ≡ false) }
+        ensures kit { IfOk result (λ r. r.1 ≡ J.setting.kinds) }
+        ensures counted { IfOk result (λ r. TakesUp r.0.value.strand self.old.laid self.new.laid) }
         ensures refused { IfErr result
             (IsRefusedBy (unless_allowed (stepped self.old.chronicle.page (Fold left.now right.now worker)))) }
         ensures same { OnErr result (self.new.chronicle ≡ self.old.chronicle) }
@@ -387,7 +419,7 @@ impl<J: Run, V: View> Book<J, V> {
             Ok(step) => step,
             Err(error) => return Err(error),
         };
-        match fold_kept(scene, &mut self.laid, k) {
+        match fold_kept(scene, &mut self.laid, k, room) {
             Ok(joined) => {
                 self.chronicle.fold(step, left, right, worker);
                 Ok(joined)
@@ -405,14 +437,14 @@ impl<J: Run, V: View> Book<J, V> {
         alloc: Global,
         scene: &Scene<'_, J>,
         worker: usize,
-    ) -> Option<Result<(RightStrand<J, V>, Kit<V>), Refusal>>
+    ) -> Option<Result<(Box<RightStrand<J, V>>, Kit<V>), Refusal>>
         ensures folded { FoldsAny self.old worker result self.new }
-        ensures joined { IfSome result (λ r. IfOk r (λ s. FirstBecome self.old s.0.strand)) }
+        ensures joined { IfSome result (λ r. IfOk r (λ s. FirstBecome self.old s.0.value.strand)) }
         ensures kept { IfSome result (λ r. IfErr r (λ e. FirstStay self.old e self.new)) }
-        ensures going { IfSome result (λ r. IfOk r (λ s. s.0.failed ≡ false)) }
+        ensures going { IfSome result (λ r. IfOk r (λ s. s.0.value.failed ≡ false)) }
         ensures kit { IfSome result (λ r. IfOk r (λ s. s.1 ≡ J.setting.kinds)) }
         ensures counted { IfSome result
-            (λ r. IfOk r (λ s. TakesUp s.0.strand self.old.laid self.new.laid)) }
+            (λ r. IfOk r (λ s. TakesUp s.0.value.strand self.old.laid self.new.laid)) }
         ensures none { IfNone result (self.new ≡ self.old) }
         ensures near { IfSome result (λ r. IfErr r (λ e. is_apart e ≡ false)) }
         ensures same { IfSome result (λ r. OnErr r (self.new.chronicle ≡ self.old.chronicle)) }
@@ -430,22 +462,54 @@ impl<J: Run, V: View> Book<J, V> {
         scene: &Scene<'_, J>,
         k: usize,
         worker: usize,
-    ) -> Result<(RightStrand<J, V>, Kit<V>), Refusal>
+    ) -> Result<(Box<RightStrand<J, V>>, Kit<V>), Refusal>
         requires first { PlacesAt k self.old.chronicle.page.lines (first_fold self.old) }
         ensures folded { FoldsFirst self.old worker result self.new }
-        ensures joined { IfOk result (λ r. FirstBecome self.old r.0.strand) }
+        ensures joined { IfOk result (λ r. FirstBecome self.old r.0.value.strand) }
         ensures kept { IfErr result (λ e. FirstStay self.old e self.new) }
-        ensures going { IfOk result (λ r. r.0.failed ≡ false) }
+        ensures going { IfOk result (λ r. r.0.value.failed ≡ false) }
         ensures kit { IfOk result (λ r. r.1 ≡ J.setting.kinds) }
-        ensures counted { IfOk result (λ r. TakesUp r.0.strand self.old.laid self.new.laid) }
+        ensures counted { IfOk result (λ r. TakesUp r.0.value.strand self.old.laid self.new.laid) }
         ensures near { IfErr result (λ e. is_apart e ≡ false) }
         ensures same { OnErr result (self.new.chronicle ≡ self.old.chronicle) }
     {
         // What the type keeps: so the first two that may be folded lie beside each other.
         self.upheld();
         match places_at(alloc, self.chronicle.strands(), k) {
-            Ok((left, right)) => self.fold_pair(alloc, scene, &left, &right, worker),
+            Ok((left, right)) => self.fold_found(alloc, scene, &left, &right, worker),
             Err(AllocError) => Err(Refusal::without_memory()),
+        }
+    }
+
+    /// Two neighbours that may be one strand, as was seen just now, are one from then on, which the worker holds. Where memory was refused
+    /// they may stay as a pair.
+    fn fold_found(
+        &mut self,
+        alloc: Global,
+        scene: &Scene<'_, J>,
+        left: &[usize],
+        right: &[usize],
+        worker: usize,
+    ) -> Result<(Box<RightStrand<J, V>>, Kit<V>), Refusal>
+        requires touch { touch self.old left.now right.now ≡ true }
+        ensures taken { OnOk result
+            (Took self.old.chronicle (Fold left.now right.now worker) self.new.chronicle) }
+        ensures joined { IfOk result
+            (λ r. BecomeOne self.old left.now r.0.value.strand) }
+        ensures going { IfOk result (λ r. r.0.value.failed ≡ false) }
+        ensures kit { IfOk result (λ r. r.1 ≡ J.setting.kinds) }
+        ensures counted { IfOk result (λ r. TakesUp r.0.value.strand self.old.laid self.new.laid) }
+        ensures refused { IfErr result
+            (IsRefusedBy (fold_refusal self.old left.now right.now worker)) }
+        ensures same { OnErr result (self.new.chronicle ≡ self.old.chronicle) }
+        ensures kept { IfErr result
+            (λ e. KeepsStrands self.old left.now e self.new) }
+    {
+        // What the type keeps: so a refusal is one that a call of a book gives.
+        self.upheld();
+        match self.fold_at(alloc, scene, left, right, worker) {
+            Ok(joined) => Ok(joined),
+            Err(error) => Err(Refusal::of(error)),
         }
     }
 

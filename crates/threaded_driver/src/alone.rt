@@ -73,7 +73,7 @@ impl<J: Run + Ledger + Stocked + Send, D: Deques, V: View> Floor<'_, J, D, V> {
             let (share, _) = supply.end();
             return Found::Own(Held::new(strand, share));
         }
-        self.lay(rt, number, seat, Box::into_inner(strand), supply, gate);
+        self.lay(rt, number, seat, strand, supply, gate);
         self.find(rt, number, seat, gate)
     }
 

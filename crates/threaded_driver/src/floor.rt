@@ -165,10 +165,10 @@ impl<J: Run + Ledger + Stocked + Send, D: Deques, V: View> Floor<'_, J, D, V> {
         ensures fresh { seat.new.here ≡ None }
     {
         let (strand, share) = held.into_parts();
-        let mut strand = Box::into_inner(strand);
+        let mut strand = strand;
         let mut supply = Supply::new(rt, &self.desk, share, strand.kits());
         for _ in rt.forever() {
-            if !self.step(rt, number, seat, &mut strand, &mut supply, gate) {
+            if !self.step(rt, number, seat, &mut *strand, &mut supply, gate) {
                 break;
             }
         }
@@ -434,11 +434,11 @@ impl<J: Run + Ledger + Stocked + Send, D: Deques, V: View> Floor<'_, J, D, V> {
         rt: &R,
         number: usize,
         seat: &mut Seat<J, D>,
-        strand: RightStrand<J, V>,
+        strand: Box<RightStrand<J, V>>,
         supply: Supply<'_, Desk<J, D, V>, Kit<V>, KitsOf<J>, R>,
         gate: &G,
     )
-        requires kits { kits_of strand.strand + supply.free ≡ most }
+        requires kits { kits_of strand.value.strand + supply.free ≡ most }
         ensures drained { seat.new.here ≡ None }
     {
         self.drain(rt, seat);

@@ -115,43 +115,31 @@ impl<J: Run + Stocked + Send, V: View> Table<J, V> {
         ensures near { IfSome result (λ r. IfErr r (λ f. is_far f ≡ false)) }
     {
         match self.book.fold_any(alloc, scene, worker) {
-            Some(Ok((strand, kit))) => Some(self.take_up(alloc, strand, kit)),
+            Some(Ok((strand, kit))) => Some(Ok(self.take_up(strand, kit))),
             Some(Err(refusal)) => Some(Err(failure_of(refusal))),
             None => None,
         }
     }
 
     /// A worker holds a strand that two have become, and the kit of the right one is free.
-    fn take_up(
-        &mut self,
-        alloc: Global,
-        strand: RightStrand<J, V>,
-        kit: Kit<V>,
-    ) -> Result<Held<J, V>, Failure>
+    fn take_up(&mut self, strand: Box<RightStrand<J, V>>, kit: Kit<V>) -> Held<J, V>
         requires kind { kit ≡ J.setting.kinds }
-        requires lacks { Lacks strand.strand (record self.old.depot { free = suc self.old.depot.free }) self.old.book.laid }
-        ensures balanced { OnOk result (Balances self.new.depot self.new.book.laid) }
-        ensures right { IfErr result (λ f. is_right f ≡ true) }
-        ensures near { IfErr result (λ f. is_far f ≡ false) }
+        requires lacks { Lacks strand.value.strand (record self.old.depot { free = suc self.old.depot.free }) self.old.book.laid }
+        ensures balanced { Balances self.new.depot self.new.book.laid }
     {
         // There is room for each kit of the run.
         let _ = self.depot.put(kit);
-        self.hold(alloc, strand)
+        self.hold(strand)
     }
 
-    /// A worker holds a strand, as the list says already. Want of memory is the only error.
-    fn hold(&mut self, alloc: Global, strand: RightStrand<J, V>) -> Result<Held<J, V>, Failure>
-        requires lacks { Lacks strand.strand self.old.depot self.old.book.laid }
-        ensures balanced { OnOk result (Balances self.new.depot self.new.book.laid) }
-        ensures right { IfErr result (λ f. is_right f ≡ true) }
-        ensures near { IfErr result (λ f. is_far f ≡ false) }
+    /// A worker holds a strand, as the list says already.
+    fn hold(&mut self, strand: Box<RightStrand<J, V>>) -> Held<J, V>
+        requires lacks { Lacks strand.value.strand self.old.depot self.old.book.laid }
+        ensures balanced { Balances self.new.depot self.new.book.laid }
     {
         self.book.counted();
         let kits = strand.kits();
-        match Box::new(alloc, strand) {
-            Ok(strand) => Ok(Held::new(strand, self.depot.begin(kits))),
-            Err(_) => Err(Failure::NoMemory),
-        }
+        Held::new(strand, self.depot.begin(kits))
     }
 
     /// Takes a kit, and then the oldest continuation of a worker that has one, from which another goes on.
@@ -232,9 +220,9 @@ impl<J: Run + Stocked + Send, V: View> Table<J, V> {
         ensures near { IfErr result (λ f. is_far f ≡ false) }
     {
         match RightStrand::stolen(alloc, scene, task, kit) {
-            Ok(strand) => match self.hold(alloc, strand) {
-                Ok(held) => Ok(Some(held)),
-                Err(failure) => Err(failure),
+            Ok(strand) => match Box::new(alloc, strand) {
+                Ok(strand) => Ok(Some(self.hold(strand))),
+                Err(_) => Err(Failure::NoMemory),
             },
             Err((_, _, kit)) => {
                 let _ = self.depot.put(kit);

@@ -6,7 +6,7 @@ use Rattle.sync_fold.specs.Books.{PlainBook, BeginAsOne, BeginWithPair, IsHalved
 use Rattle.sync_fold.specs.Counts.{TakesUp}
 use Rattle.strand_list.specs.Chronicles.{told}
 use Rattle.sync_fold.proofs.Keeping.{apart_of, same_keeps, fold_keeps, halve_keeps, pair_there, pair_long, touch_missing, kept_same, book_of}
-use Rattle.sync_fold.proofs.book.Book.fold_at.Goals as goal
+use Rattle.sync_fold.proofs.book.Book.fold_in.Goals as goal
 
 pub fold-requires : goal.fold-requires
 fold-requires g c = record {
@@ -45,11 +45,11 @@ pub returns-in-Ok-fold_kept : goal.returns-in-Ok-fold_kept
 returns-in-Ok-fold_kept g c = record {
   taken = subst (λ (b : PlainBook). Took b.chronicle (Fold c.args.left.now c.args.right.now c.args.worker) (told c.fold.new.self)) c.self.view_is
       (subst (λ (b : PlainChronicle). Took b (Fold c.args.left.now c.args.right.now c.args.worker) (told c.fold.new.self)) c.prepare_fold.ensures.same c.fold.ensures.taken);
-  joined = subst (λ (b : PlainBook). BeginAsOne (drop (position c.args.left.now b.chronicle.page.lines) b.laid) c.in-Ok-fold_kept.joined.0.strand) c.self.view_is
-      (subst (λ k. BeginAsOne (drop k c.self.inside.laid.items) c.in-Ok-fold_kept.joined.0.strand) c.in-Some.ensures.0 c.in-Ok-fold_kept.ensures.joined);
+  joined = subst (λ (b : PlainBook). BeginAsOne (drop (position c.args.left.now b.chronicle.page.lines) b.laid) c.in-Ok-fold_kept.joined.0.value.strand) c.self.view_is
+      (subst (λ k. BeginAsOne (drop k c.self.inside.laid.items) c.in-Ok-fold_kept.joined.0.value.strand) c.in-Some.ensures.0 c.in-Ok-fold_kept.ensures.joined);
   going = c.in-Ok-fold_kept.ensures.going;
   kit = c.in-Ok-fold_kept.ensures.kit;
-  counted = subst (λ (b : PlainBook). TakesUp c.in-Ok-fold_kept.joined.0.strand b.laid c.fold_kept.new.laid.items) c.self.view_is c.in-Ok-fold_kept.ensures.counted;
+  counted = subst (λ (b : PlainBook). TakesUp c.in-Ok-fold_kept.joined.0.value.strand b.laid c.fold_kept.new.laid.items) c.self.view_is c.in-Ok-fold_kept.ensures.counted;
   refused = tt;
   same = tt;
   kept = tt;
