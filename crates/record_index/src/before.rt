@@ -1,15 +1,15 @@
 // A row and its table's totals before an edit, so that each record is told what the edit changed of it.
 ghost use Rattle.std.specs.Prelude.{◌≡◌, ◌≤◌, ◌<◌, ◌+◌, ◌*◌, ◌++◌, ◌∷◌, [], ℕ, cond, IfOk, IfSome, Some, None, option_map, length, vec_capacity};
-ghost use Rattle.std.specs.Ordering.{int_eq};
 ghost use Rattle.meaning.specs.Tables.{is_there, row_of, at_column};
 ghost use Rattle.meaning.specs.Records.{same_number};
 ghost use Rattle.input_tables.specs.Edited.{columns_at, rows_at, limit_at};
 ghost use Rattle.input_tables.specs.Rows.{AreWide};
-ghost use Rattle.evaluation.specs.declared.note.Note.TheVariants.{Cell, Sum};
+ghost use Rattle.evaluation.specs.declared.note.Note.TheVariants.{Cell};
 ghost use Rattle.record_index.specs.Befores.{IsBefore, now_of, held_only, cells_only, row_only, presence_only, limit_only, sums_only, sums_from, no_row};
 
 use evaluation::note::Note;
 use input_tables::Tables;
+use record_theory::totals::{put_limit, put_sum};
 use std::alloc::{AllocError, Global};
 use std::marker::Model;
 
@@ -346,17 +346,6 @@ fn put_presence(notes: &mut Vec<Note>, table: usize, row: i64, found: bool, othe
     }
 }
 
-// The limit, where it is another at the other time; there is room for it.
-fn put_limit(notes: &mut Vec<Note>, table: usize, value: i64, other: i64)
-    requires room { length notes.old.items < vec_capacity notes.old }
-    ensures put { notes.new.items ≡ notes.old.items ++ limit_only table value other }
-    ensures room { vec_capacity notes.new ≡ vec_capacity notes.old }
-{
-    if value != other {
-        notes.push_reserved(Note::Limit { table, value });
-    }
-}
-
 // The sums that are others now, as they were and as they are now; there is room for all.
 fn put_changed_sums(
     lost: &mut Vec<Note>,
@@ -379,22 +368,5 @@ fn put_changed_sums(
         let now = tables.sum(table, column);
         put_sum(lost, table, column, was, now);
         put_sum(won, table, column, now, was);
-    }
-}
-
-// The sum of a column, where it is another at the other time; there is room for it.
-fn put_sum(notes: &mut Vec<Note>, table: usize, column: usize, value: i64, other: i64)
-    requires room { length notes.old.items < vec_capacity notes.old }
-    ensures put { notes.new.items ≡ notes.old.items
-        ++ cond (int_eq value other) [] (Sum table column value ∷ []) }
-    ensures few { length notes.new.items ≤ length notes.old.items + 1 }
-    ensures room { vec_capacity notes.new ≡ vec_capacity notes.old }
-{
-    if value != other {
-        notes.push_reserved(Note::Sum {
-            table,
-            column,
-            value,
-        });
     }
 }

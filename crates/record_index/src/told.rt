@@ -1,5 +1,5 @@
 // What was told of the procedures: their names with their revision numbers, in the program's order.
-ghost use Rattle.std.specs.Prelude.{◌≡◌, ◌≤◌, ◌<◌, ◌∷◌, [], List, false, take, length, slice_get, IfOk, OnOk, IfSome, IfNone};
+ghost use Rattle.std.specs.Prelude.{◌≡◌, ◌≤◌, ◌<◌, ◌∷◌, [], List, false, take, length, IfOk, OnOk, IfSome, IfNone};
 ghost use Rattle.meaning.specs.Tables.{index_of};
 ghost use Rattle.meaning.specs.declared.tree.Declaration.{Declaration as PlainDeclaration};
 ghost use Rattle.linked_program.specs.Checked.{names_in, numbers_in};
@@ -11,6 +11,7 @@ ghost use Rattle.record_index.specs.Told.{AreFirst};
 
 use linked_program::checked::Checked;
 use meaning::tree::Declaration;
+use record_theory::validity::revision_of;
 use std::alloc::{AllocError, Global};
 use std::marker::Model;
 
@@ -145,16 +146,6 @@ fn number_of(names: &[(String, u64)], name: &str) -> Option<usize>
         }
     }
     None
-}
-
-// The revision number of the procedure of that number; 0 where there is none.
-fn revision_of(program: &Checked, number: usize) -> u64
-    ensures revision { IfSome (slice_get program.now.revisions number) (λ entry. result ≡ entry.1) }
-{
-    match program.revision_at(number) {
-        Some(revision) => revision,
-        None => 0,
-    }
 }
 
 // Whether the revision is one of these.

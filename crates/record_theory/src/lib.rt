@@ -3,4 +3,5 @@
 
 pub mod agreement;
 pub mod laws;
+pub mod totals;
 pub mod validity;

@@ -1,5 +1,5 @@
 //! Whether a record answers an instance now.
-ghost use Rattle.std.specs.Prelude.{◌≡◌, ◌+◌, ◌&&◌, suc, nat_le};
+ghost use Rattle.std.specs.Prelude.{◌≡◌, ◌+◌, ◌&&◌, suc, nat_le, slice_get, IfSome};
 ghost use Rattle.meaning.specs.Elision.{depth_limit};
 ghost use Rattle.meaning.specs.Every.{every};
 ghost use Rattle.record_theory.specs.Validity.{has_revision};
@@ -42,6 +42,16 @@ pub fn are_current(entered: &[(usize, u64)], program: &Checked) -> bool
         }
     }
     true
+}
+
+/// The revision number that the procedure of that number has now; 0 where there is none.
+pub fn revision_of(program: &Checked, number: usize) -> u64
+    ensures revision { IfSome (slice_get program.now.revisions number) (λ entry. result ≡ entry.1) }
+{
+    match program.revision_at(number) {
+        Some(revision) => revision,
+        None => 0,
+    }
 }
 
 fn is_current(procedure: usize, revision: u64, program: &Checked) -> bool
