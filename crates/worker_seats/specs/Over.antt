@@ -3,7 +3,7 @@ use Rattle.std.specs.Prelude.{Bool, true, false, ◌||◌, Option, Some, None}
 use Rattle.sync_fold.specs.Books.{PlainBook, is_ended}
 use Rattle.sync_fold.specs.Refusals.{is_apart}
 use Rattle.strand_list.specs.declared.error.BookError.{BookError}
-use Rattle.strand_list.specs.declared.error.BookError.TheVariants as error
+use Rattle.worker_rules.specs.Ends as rules
 use Rattle.worker_seats.specs.declared.failure.Failure.{Failure}
 use Rattle.worker_seats.specs.declared.failure.Failure.TheVariants as failure
 
@@ -17,8 +17,7 @@ is_over book given_up = has_failed given_up || is_ended book
 
 -- a refusal that isn't for want of memory
 abbrev pub is_refusal : BookError → Bool
-is_refusal error.NoMemory = false
-is_refusal _ = true
+is_refusal e = rules.is_refusal e
 
 -- want of memory is noted as such
 abbrev pub is_right : Failure → Bool

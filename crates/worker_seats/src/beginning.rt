@@ -11,12 +11,9 @@ use right_strands::strand::RightStrand;
 use std::alloc::{AllocError, Global};
 use std::marker::Model;
 use std::sync::ledger::{Blank, Ledger};
-use stealing_deques::{NewDeque, new_deques};
+use stealing_deques::NewDeque;
 use view_pool::{Kit, Pool, View};
-
-/// How many continuations a deque has room for at first. Few wait in one, since where four do the next child is called, and room for
-/// many takes the allocator longer at each run.
-const FIRST_CAPACITY: usize = 8;
+use worker_rules::its_deques::deques_for;
 
 /// New ledgers of a run: of the workers that will leave, and of the kits that strands have.
 #[derive(Drop)]
@@ -69,7 +66,7 @@ pub fn deques_of<J: Run + Ledger + Stocked + Send>(
     requires workers { J.parts ≡ workers }
     ensures count { IfOk result (λ deques. length deques ≡ workers) }
 {
-    let deques = new_deques(alloc, workers, FIRST_CAPACITY)?;
+    let deques = deques_for(alloc, workers)?;
     Ok(NewDeques { deques, blanks })
 }
 

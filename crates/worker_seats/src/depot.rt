@@ -5,6 +5,7 @@ use crate::kits::{RightPool, Stock};
 use std::marker::Model;
 use std::sync::ledger::{Blank, Book as Count, Ledger, Share};
 use view_pool::KitSource;
+use worker_rules::free_kits::{put_folded, put_untaken};
 
 /// The free kits of type `K` of a run, and the count of those that the strands have that workers hold. Each such strand has one
 /// part of the count; no kit is counted for the parts that are left.
@@ -158,5 +159,25 @@ impl<P: Stock<K> + Ledger, K> Depot<P, K> {
     {
         let Depot { pool, .. } = self;
         pool
+    }
+}
+
+impl<P: Stock<K> + Ledger, K: Drop> Depot<P, K> {
+    /// Puts the kit of a strand that has become part of another among the free ones: one is missing of those that were free at first.
+    pub fn put_folded(&mut self, kit: K)
+        requires fits { P.fits kit }
+        requires room { self.old.free < self.old.begun }
+        ensures put { self.new ≡ record self.old { free = suc self.old.free } }
+    {
+        put_folded(&mut self.pool, kit);
+    }
+
+    /// Puts a kit among the free ones that was taken for nothing: one is missing of those that were free at first.
+    pub fn put_untaken(&mut self, kit: K)
+        requires fits { P.fits kit }
+        requires room { self.old.free < self.old.begun }
+        ensures put { self.new ≡ record self.old { free = suc self.old.free } }
+    {
+        put_untaken(&mut self.pool, kit);
     }
 }

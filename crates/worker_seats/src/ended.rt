@@ -10,6 +10,7 @@ use instance_records::record::Record;
 use numbered_runs::step::BookStep;
 use positions::answer::RunAnswer;
 use std::alloc::Global;
+use worker_rules::its_end::is_finished;
 
 /// How a run has ended: its answer, its new records, and the steps of its list of strands.
 #[derive(Drop)]
@@ -39,8 +40,8 @@ pub fn kept_of(alloc: Global, answer: &RunAnswer, made: Vec<Record>) -> Vec<Reco
     ensures recorded { (setting : Setting) → HasRecorded setting answer.now made.items → HasRecorded setting answer.now result.items }
     ensures values { (setting : Setting) → HaveValues setting.kinds made.items → HaveValues setting.kinds result.items }
 {
-    match answer {
-        RunAnswer::Finished { .. } => made,
-        _ => Vec::new(alloc),
+    if is_finished(answer) {
+        return made;
     }
+    Vec::new(alloc)
 }

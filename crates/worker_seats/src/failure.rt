@@ -4,7 +4,9 @@ ghost use Rattle.sync_fold.specs.Refusals.{WasRefused, is_apart};
 ghost use Rattle.worker_seats.specs.Over.{has_failed, is_far, is_refusal, is_right};
 ghost use Rattle.worker_seats.specs.declared.failure.Failure.TheVariants as reason;
 
-use sync_fold::{BookError, Mismatch, Refusal};
+use sync_fold::{Mismatch, Refusal};
+use worker_rules::its_end;
+use worker_rules::refusals::is_refusal;
 
 /// Why a run gives up: a growth was refused, or the list of strands refused a worker for another reason.
 #[derive(Clone, Copy)]
@@ -19,10 +21,10 @@ pub fn failure_of(refusal: Refusal) -> Failure
     ensures near { is_apart refusal ≡ false → is_far result ≡ false }
     ensures same { is_refusal refusal ≡ true → result ≡ reason.Refused refusal }
 {
-    match refusal.error() {
-        BookError::NoMemory => Failure::NoMemory,
-        _ => Failure::Refused(refusal),
+    if is_refusal(refusal.error()) {
+        return Failure::Refused(refusal);
     }
+    Failure::NoMemory
 }
 
 /// The mismatch of a run that gives up for this reason; none where memory was refused.
@@ -54,5 +56,5 @@ fn was_refused(refusal: Refusal)
 pub fn is_over(failure: &Option<Failure>, is_at_end: bool) -> bool
     ensures over { result ≡ (has_failed failure.now || is_at_end) }
 {
-    failure.is_some() || is_at_end
+    its_end::is_over(failure, is_at_end)
 }

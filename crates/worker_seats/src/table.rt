@@ -128,7 +128,7 @@ impl<J: Run + Stocked + Send, V: View> Table<J, V> {
         ensures balanced { Balances self.new.depot self.new.book.laid }
     {
         // There is room for each kit of the run.
-        let _ = self.depot.put(kit);
+        self.depot.put_folded(kit);
         self.hold(strand)
     }
 
@@ -175,7 +175,7 @@ impl<J: Run + Stocked + Send, V: View> Table<J, V> {
         ensures balanced { Balances self.new.depot self.new.book.laid }
     {
         // There is room for each kit of the run.
-        let _ = self.depot.put(kit);
+        self.depot.put_untaken(kit);
     }
 
     /// The worker goes on from a continuation that was taken from the victim, as a strand with that kit. It is no part of who looks for
