@@ -14,6 +14,7 @@ pub mod Ends
 pub mod Recording
 pub mod Steps
 pub mod Pairs
+pub mod Begun
 pub mod Joining
 pub mod Folded
 pub mod Merging
