@@ -42,6 +42,12 @@ same_is e d h =
     let q : e.1 ≡ d.1 = (Decides-eqb e.1 d.1).0 (right_is (nat_eq e.0 d.0) (nat_eq e.1 d.1) h) in
     ap (λ i. (i, e.1)) p ∙ ap (λ j. (d.0, j)) q
 
+-- one that is there alone is put in again
+pub only_put : (more : List (ℕ × ℕ)) (x e : ℕ × ℕ) → length more ≡ 1 → x ≡ get_or more 0 x → same_entry x e ≡ true → put_entries (e ∷ []) more ≡ e ∷ []
+only_put [] x e n at h = absurd cc
+only_put (y ∷ z ∷ ys) x e n at h = absurd (omega (arith, n))
+only_put (y ∷ []) x e n at h = ap (λ b. cond (b || false) (e ∷ []) (e ∷ y ∷ [])) (ap (λ w. same_entry w e) (sym at) ∙ h)
+
 there : (e : ℕ × ℕ) (es : List (ℕ × ℕ)) → list_any (same_entry e) es ≡ true → Contains es e
 there e [] h = absurd cc
 there e (d ∷ es) h =

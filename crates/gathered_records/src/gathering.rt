@@ -56,14 +56,17 @@ fn gather_due(
     }
 }
 
-// Makes the blocks of all records.
+// Makes the blocks of all records. Wider ones are looked for at the fine ones that were made.
 fn gather_all(records: &mut Records, alloc: Global, program: &Checked) -> Result<(), AllocError>
     requires monoids { All IsMonoid program.now.kinds }
     requires values { HaveValues program.now.kinds records.old }
     ensures same { records.new ≡ records.old }
 {
     let all = places_to(alloc, records.len())?;
-    gather_these(records, alloc, &all, program)
+    let mut stretches = Stretches::new(alloc);
+    let mut made = Vec::new(alloc);
+    make_fine(records, alloc, &all, &mut stretches, &mut made, program)?;
+    make_all_wider(records, alloc, &made, &mut stretches, program)
 }
 
 // Gathers the records at these places: first into fine blocks, then these into wider ones.
@@ -78,28 +81,37 @@ fn gather_these(
     ensures same { records.new ≡ records.old }
 {
     let mut stretches = Stretches::new(alloc);
-    make_fine(records, alloc, places, &mut stretches, program)?;
-    make_wider(
-        records,
-        alloc,
-        Width::Middle,
-        places,
-        &mut stretches,
-        program,
-    )?;
-    make_wider(records, alloc, Width::Wide, places, &mut stretches, program)?;
+    let mut made = Vec::new(alloc);
+    make_fine(records, alloc, places, &mut stretches, &mut made, program)?;
+    make_all_wider(records, alloc, places, &mut stretches, program)
+}
+
+// Makes blocks of all widths but the finest that have the records at these places as part.
+fn make_all_wider(
+    records: &mut Records,
+    alloc: Global,
+    places: &[u32],
+    stretches: &mut Stretches,
+    program: &Checked,
+) -> Result<(), AllocError>
+    requires monoids { All IsMonoid program.now.kinds }
+    ensures same { records.new ≡ records.old }
+{
+    make_wider(records, alloc, Width::Middle, places, stretches, program)?;
+    make_wider(records, alloc, Width::Wide, places, stretches, program)?;
     if records.len() < MANY {
         return Ok(());
     }
-    make_wider(records, alloc, Width::Vast, places, &mut stretches, program)
+    make_wider(records, alloc, Width::Vast, places, stretches, program)
 }
 
-// Makes fine blocks that have the records at these places as part.
+// Makes fine blocks that have the records at these places as part, and notes the first place of each.
 fn make_fine(
     records: &mut Records,
     alloc: Global,
     places: &[u32],
     stretches: &mut Stretches,
+    made: &mut Vec<u32>,
     program: &Checked,
 ) -> Result<(), AllocError>
     requires monoids { All IsMonoid program.now.kinds }
@@ -114,6 +126,7 @@ fn make_fine(
             *place as usize,
             &mut tried,
             stretches,
+            made,
             program,
         );
     }
@@ -154,6 +167,7 @@ fn gather_at(
     place: usize,
     tried: &mut Tried,
     stretches: &mut Stretches,
+    made: &mut Vec<u32>,
     program: &Checked,
 )
     requires monoids { All IsMonoid program.now.kinds }
@@ -165,7 +179,7 @@ fn gather_at(
     }
     tried.put(place);
     match row_at(records, alloc, place) {
-        Ok(Some(mut row)) => { gather_on(records, alloc, &mut row, tried, stretches, program) }
+        Ok(Some(mut row)) => gather_on(records, alloc, &mut row, tried, stretches, made, program),
         _ => {}
     }
 }
@@ -177,6 +191,7 @@ fn gather_on(
     row: &mut Row,
     tried: &mut Tried,
     stretches: &mut Stretches,
+    made: &mut Vec<u32>,
     program: &Checked,
 )
     requires monoids { All IsMonoid program.now.kinds }
@@ -193,7 +208,7 @@ fn gather_on(
             tried.are_many(),
             program.kinds(),
         );
-        if gather_row(records, alloc, row, bounds, tried, program).is_err() {
+        if gather_row(records, alloc, row, bounds, tried, made, program).is_err() {
             return;
         }
         if part_above(records, Width::Fine, row, bounds.last, program.kinds()).is_none() {
@@ -209,6 +224,7 @@ fn gather_row(
     row: &mut Row,
     bounds: Bounds,
     tried: &mut Tried,
+    made: &mut Vec<u32>,
     program: &Checked,
 ) -> Result<(), AllocError>
     requires monoids { All IsMonoid program.now.kinds }
@@ -221,6 +237,7 @@ fn gather_row(
     if places.len() < 2 {
         return Ok(());
     }
+    made.push(places[0])?;
     let sum = sum_at(alloc, program.kinds(), records.as_slice(), &places)?;
     let block = Block::new(places, row.counted(), sum);
     records.add_block(alloc, Width::Fine, program.kinds(), block)

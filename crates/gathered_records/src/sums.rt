@@ -13,8 +13,8 @@ ghost use Rattle.record_theory.specs.Sums.{IsSumOf, arguments_of_last};
 ghost use Rattle.gathered_records.specs.Summing.{nothing_summed, added, summed, worth_in, same_entry, put_entry, put_entries};
 ghost use Rattle.gathered_records.specs.Summing.{numbered_from, at_places, HasSummed};
 
-use instance_records::readings::Readings;
 use instance_records::record::Record;
+use instance_records::several::Several;
 use instance_records::short_list::ShortList;
 use meaning::DEPTH_LIMIT;
 use monoid_laws::{Kind, Val};
@@ -31,14 +31,13 @@ const MOST: usize = 64;
 pub(crate) struct Sum {
     // The value of each reducer behind its number.
     values: Vec<(usize, Val)>,
-    reads: Vec<Readings>,
+    reads: Several,
     entered: ShortList<(usize, u64)>,
     height: u32,
 }
 
 impl Model for Sum {
     ghost use Rattle.std.specs.Prelude.{map};
-    ghost use Rattle.instance_records.specs.Readings.{all_of};
     ghost use Rattle.instance_records.specs.ShortLists.{items_in};
     ghost use Rattle.gathered_records.specs.Summing.{PlainSum, worth_in};
 
@@ -46,20 +45,26 @@ impl Model for Sum {
 
     ghost view = { λ s. record {
       worths = map worth_in s.values.items;
-      reads = all_of s.reads.items;
+      reads = s.reads;
       entered = items_in s.entered;
       height = s.height;
     } };
 }
 
 impl Sum {
-    /// Of no records, for reducers of these kinds, with room for the readings of so many records.
-    pub(crate) fn new(alloc: Global, kinds: &[Kind], room: usize) -> Result<Sum, AllocError>
+    /// Of no records, for reducers of these kinds, with room for what so many records have read that have two readings each, and so many
+    /// others.
+    pub(crate) fn new(
+        alloc: Global,
+        kinds: &[Kind],
+        records: usize,
+        parts: usize,
+    ) -> Result<Sum, AllocError>
         ensures none { IfOk result (λ s. s ≡ nothing_summed kinds.now) }
     {
         Ok(Sum {
             values: units(alloc, kinds)?,
-            reads: Vec::with_capacity(alloc, room)?,
+            reads: Several::new(alloc, records, parts)?,
             entered: ShortList::new(Vec::new(alloc)),
             height: 0,
         })
@@ -80,7 +85,7 @@ impl Sum {
         ensures added { OnOk result (self.new ≡ added kinds.now self.old record.now) }
     {
         add_values(&mut self.values, alloc, kinds, record.contribution())?;
-        add_reads(&mut self.reads, record.reads())?;
+        self.reads.add(record.reads())?;
         add_entries(alloc, &mut self.entered, record.entered())?;
         self.height = self.height.max(record.height());
         Ok(())
@@ -95,7 +100,7 @@ impl Sum {
             return Err(AllocError);
         }
         let arguments = ShortList::from_slice(alloc, last.arguments())?;
-        let reads = Readings::new(alloc, ShortList::new(Vec::new(alloc)), self.reads)?;
+        let reads = self.reads.finish(alloc)?;
         Ok(Record::new(
             last.procedure(),
             arguments,
@@ -121,7 +126,7 @@ pub(crate) fn sum_at(
     requires some { 0 < length (at_places records.now places.now) }
     ensures sum { IfOk result (λ s. IsSumOf kinds.now (at_places records.now places.now) s) }
 {
-    let mut sum = Sum::new(alloc, kinds, places.len())?;
+    let mut sum = Sum::new(alloc, kinds, places.len(), 0)?;
     for place in places {
         add_record(&mut sum, alloc, kinds, records, *place as usize)?;
     }
@@ -351,18 +356,47 @@ fn are_few<T: Drop>(pieces: &[Vec<T>]) -> bool {
     true
 }
 
-// Shares these readings, behind the others.
-#[inline(always)]
-fn add_reads(parts: &mut Vec<Readings>, reads: &Readings) -> Result<(), AllocError>
-    ensures added { OnOk result (parts.new.items ≡ parts.old.items ++ reads.now ∷ []) }
-{
-    parts.push(reads.share()?)?;
-    Ok(())
-}
-
 // Puts in the entries that aren't there.
 #[inline(always)]
 fn add_entries(
+    alloc: Global,
+    entries: &mut ShortList<(usize, u64)>,
+    more: &[(usize, u64)],
+) -> Result<(), AllocError>
+    ensures put { OnOk result (items_in entries.new ≡ put_entries (items_in entries.old) more.now) }
+{
+    if is_same_one(entries, more) {
+        return Ok(());
+    }
+    add_each(alloc, entries, more)
+}
+
+// Whether there is one entry, and the others are that one alone. Then it is there.
+#[inline(always)]
+fn is_same_one(entries: &ShortList<(usize, u64)>, more: &[(usize, u64)]) -> bool
+    ensures same { result ≡ true → put_entries (items_in entries.now) more.now ≡ items_in entries.now }
+{
+    match entries {
+        ShortList::One(entry) => is_only(entry, more),
+        _ => false,
+    }
+}
+
+// Whether that entry is the only one of these.
+#[inline(always)]
+#[tactic(auto, using(crate::proofs::Summed::only_put))]
+fn is_only(entry: &(usize, u64), more: &[(usize, u64)]) -> bool
+    ensures same { result ≡ true → put_entries (entry.now ∷ []) more.now ≡ entry.now ∷ [] }
+{
+    if more.len() != 1 {
+        return false;
+    }
+    is_same(&more[0], entry)
+}
+
+// Puts in the entries that aren't there, one by one.
+#[inline(never)]
+fn add_each(
     alloc: Global,
     entries: &mut ShortList<(usize, u64)>,
     more: &[(usize, u64)],

@@ -139,7 +139,7 @@ fn widen_row(
     let most = bounds.count_from(first);
     let mut joined = Joined {
         places: Vec::with_capacity(alloc, most.min(PLACES))?,
-        sum: Sum::new(alloc, kinds, ROOM)?,
+        sum: Sum::new(alloc, kinds, 0, ROOM)?,
         most,
     };
     join_parts(records, alloc, width, row, first, kinds, &mut joined)?;
