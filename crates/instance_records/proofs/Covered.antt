@@ -219,7 +219,7 @@ put_twice (x ∷ xs) s =
 
 -- ---- two readings
 
-pub two_there : (d : Reading) (xs : List Reading) → length xs ≡ 2 → xs ≡ slice_index_or xs 0 d ∷ slice_index_or xs 1 d ∷ []
+two_there : (d : Reading) (xs : List Reading) → length xs ≡ 2 → xs ≡ slice_index_or xs 0 d ∷ slice_index_or xs 1 d ∷ []
 two_there d [] n = absurd (omega (arith, n))
 two_there d (x ∷ []) n = absurd (omega (arith, n))
 two_there d (x ∷ y ∷ z ∷ xs) n = absurd (omega (arith, n))

@@ -1,5 +1,5 @@
 // Readings that lie in their records, two in each, in one list.
-ghost use Rattle.std.specs.Prelude.{◌≡◌, ◌++◌, IfOk, OnOk, map};
+ghost use Rattle.std.specs.Prelude.{◌≡◌, ◌++◌, IfOk, map};
 ghost use Rattle.evaluation.specs.Short.{note_of};
 ghost use Rattle.instance_records.specs.Readings.{all_of};
 
@@ -32,14 +32,4 @@ pub(crate) fn with_pairs(
         part.put_pair(&mut all)?;
     }
     Ok(all)
-}
-
-/// Puts copies of two readings behind others.
-#[inline(always)]
-pub(crate) fn put_both(pair: &[Reading; 2], all: &mut Vec<Reading>) -> Result<(), AllocError>
-    ensures put { OnOk result (map note_of all.new.items ≡ map note_of all.old.items ++ map note_of pair.now) }
-{
-    all.push(pair[0])?;
-    all.push(pair[1])?;
-    Ok(())
 }

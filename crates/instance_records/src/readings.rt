@@ -15,7 +15,7 @@ ghost use Rattle.record_theory.specs.Same.{is_read, same_note};
 
 use crate::hull::Hull;
 use crate::narrowing::{how_many, how_many_own, lowest, touched_own};
-use crate::pairs::{are_pairs, put_both, with_pairs};
+use crate::pairs::{are_pairs, with_pairs};
 use crate::short_list::ShortList;
 use crate::spans::{Span, may_have, put_pair, put_read, put_spans};
 use crate::touching::{are_own_touched, node_is_touched};
@@ -134,7 +134,7 @@ impl Readings {
         ensures put { OnOk result (map note_of all.new.items ≡ map note_of all.old.items ++ self.now) }
     {
         match &self.held {
-            Held::Two(pair) => put_both(pair, all),
+            Held::Two(pair) => all.extend_from_slice(pair),
             Held::Shared(_) => Err(AllocError),
         }
     }

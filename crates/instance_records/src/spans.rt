@@ -72,23 +72,19 @@ impl Span {
         }
     }
 
-    // These rows with one more of the same table.
+    // Puts in one more row of the same table.
     #[inline(always)]
-    fn with_row(self, row: u32) -> Span
-        ensures joined { result ≡ record {
-          table = self.table;
-          whole = self.whole;
-          low = int_min self.low (pos row);
-          high = int_max self.high (pos row);
+    fn put_row(&mut self, row: u32)
+        ensures joined { self.new ≡ record {
+          table = self.old.table;
+          whole = self.old.whole;
+          low = int_min self.old.low (pos row);
+          high = int_max self.old.high (pos row);
         } }
     {
         let row = i64::from(row);
-        Span {
-            table: self.table,
-            whole: self.whole,
-            low: self.low.min(row),
-            high: self.high.max(row),
-        }
+        self.low = self.low.min(row);
+        self.high = self.high.max(row);
     }
 
     // Whether these are the rows of the other.
@@ -180,35 +176,41 @@ fn put_from(own: &[Reading], first: Span, spans: &mut Vec<Span>) -> Result<(), A
 {
     let mut run = first;
     for reading in own {
-        run = joined_on(run, reading, spans)?;
+        join_on(&mut run, reading, spans)?;
     }
     put_span(&run, spans)
 }
 
 // Joins rows that aren't in the spans yet with those of a reading, and puts them in first, where that is of another table.
 #[inline(always)]
-fn joined_on(run: Span, reading: &Reading, spans: &mut Vec<Span>) -> Result<Span, AllocError>
-    ensures joined { IfOk result (λ s. put_span spans.new.items s
-        ≡ put_span (put_span spans.old.items run) (span_of reading.now)) }
+fn join_on(run: &mut Span, reading: &Reading, spans: &mut Vec<Span>) -> Result<(), AllocError>
+    ensures joined { OnOk result (put_span spans.new.items run.new
+        ≡ put_span (put_span spans.old.items run.old) (span_of reading.now)) }
 {
     match reading {
-        Reading::Cell { table, row, .. } if *table == run.table => { Ok(run.with_row(*row)) }
-        _ => turned_to(run, reading, spans),
+        Reading::Cell { table, row, .. } if *table == run.table => {
+            run.put_row(*row);
+            Ok(())
+        }
+        _ => turn_to(run, reading, spans),
     }
 }
 
 // The same of whatever reading.
 #[inline(never)]
-fn turned_to(run: Span, reading: &Reading, spans: &mut Vec<Span>) -> Result<Span, AllocError>
-    ensures joined { IfOk result (λ s. put_span spans.new.items s
-        ≡ put_span (put_span spans.old.items run) (span_of reading.now)) }
+fn turn_to(run: &mut Span, reading: &Reading, spans: &mut Vec<Span>) -> Result<(), AllocError>
+    ensures joined { OnOk result (put_span spans.new.items run.new
+        ≡ put_span (put_span spans.old.items run.old) (span_of reading.now)) }
 {
+    let last = *run;
     let span = Span::new(reading);
-    if span.table == run.table {
-        return Ok(run.joined(&span));
+    if span.table == last.table {
+        *run = last.joined(&span);
+        return Ok(());
     }
-    put_span(&run, spans)?;
-    Ok(span)
+    put_span(&last, spans)?;
+    *run = span;
+    Ok(())
 }
 
 /// Joins spans with the rows of two readings, which most often are of one row.

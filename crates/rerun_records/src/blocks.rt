@@ -1,6 +1,6 @@
 //! The blocks of a session's records.
 ghost use Rattle.std.specs.Prelude.{◌≡◌, ◌⊎◌, ℕ, Some, [], IfSome, OnOk, true};
-ghost use Rattle.rerun_records.specs.Blocks.{PlainBlock, PlainBlocks, BlocksRemain, IsFree, IsBlock, live_at, Answers};
+ghost use Rattle.rerun_records.specs.Blocks.{PlainBlock, PlainBlocks, BlocksRemain, IsFree, IsBlock, IsLive, live_at, Answers};
 
 use crate::block::Block;
 use crate::due::Due;
@@ -135,9 +135,20 @@ impl Blocks {
     pub(crate) fn at(&self, width: Width, place: usize, kinds: &[Kind]) -> Option<&Block>
         ensures block { IfSome result (λ b. IsBlock kinds.now self.now b.now) }
     {
-        if !self.are_for(kinds) {
-            return None;
+        let block = self.live(width, place)?;
+        if self.are_for(kinds) {
+            Some(block)
+        } else {
+            None
         }
+    }
+
+    // The same, whichever reducers it is for.
+    #[inline(always)]
+    fn live(&self, width: Width, place: usize) -> Option<&Block>
+        ensures live { IfSome result (λ b. IsLive self.now.fine b.now ⊎ (IsLive self.now.middle b.now
+            ⊎ (IsLive self.now.wide b.now ⊎ IsLive self.now.vast b.now))) }
+    {
         match width {
             Width::Fine => self.fine.at(place),
             Width::Middle => self.middle.at(place),

@@ -203,10 +203,25 @@ fn move_all(
     ensures count { length blocks.new.items ≡ length blocks.old.items }
     ensures there { OnOk result (every (is_home homes.new.items number) places.now ≡ true) }
 {
+    if are_home(homes, places, number) {
+        return Ok(());
+    }
     for place in places {
         move_in(blocks, homes, *place, number, due)?;
     }
     Ok(())
+}
+
+// Whether the records at these places are all at home at that number, as they mostly are where a block is made anew.
+fn are_home(homes: &[u32], places: &[u32], number: u32) -> bool
+    ensures home { result ≡ every (is_home homes.now number) places.now }
+{
+    for place in places {
+        if !is_home(homes, number, *place as usize) {
+            return false;
+        }
+    }
+    true
 }
 
 // Has the record at that place be at home at that number, and drops the block that it was part of.

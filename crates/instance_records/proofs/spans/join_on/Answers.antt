@@ -1,7 +1,7 @@
 use Rattle.std.proofs.Common.{pos, false, ap, ◌∙◌}
 use Rattle.instance_records.specs.Spans.{span_of, put_span}
 use Rattle.instance_records.proofs.Runs.{made, put_row}
-use Rattle.instance_records.proofs.spans.joined_on.Goals as goal
+use Rattle.instance_records.proofs.spans.join_on.Goals as goal
 
 pub returns-in-Cell : goal.returns-in-Cell
 returns-in-Cell c =
@@ -9,6 +9,6 @@ returns-in-Cell c =
     let row = pos c.in-Cell.row in
     record {
       joined =
-          ap (put_span xs) c.with_row.ensures.joined
-          ∙ put_row xs c.args.run row (span_of c.args.reading.now) (ap span_of c.in-Cell.is ∙ ap (λ t. made t false row row) c.if-table-run.true);
+          ap (put_span xs) c.put_row.ensures.joined
+          ∙ put_row xs c.args.run.now row (span_of c.args.reading.now) (ap span_of c.in-Cell.is ∙ ap (λ t. made t false row row) c.if-table-run.true);
     }
