@@ -126,11 +126,26 @@ pub(crate) fn sum_at(
     requires some { 0 < length (at_places records.now places.now) }
     ensures sum { IfOk result (λ s. IsSumOf kinds.now (at_places records.now places.now) s) }
 {
-    let mut sum = Sum::new(alloc, kinds, places.len(), 0)?;
+    let (pairs, parts) = rooms_for(records, places);
+    let mut sum = Sum::new(alloc, kinds, pairs, parts)?;
     for place in places {
         add_record(&mut sum, alloc, kinds, records, *place as usize)?;
     }
     finish_at(alloc, sum, kinds, records, places)
+}
+
+// For how many records that have two readings each, and for how many others, there is to be room: all are taken to be as the first.
+fn rooms_for(records: &[Record], places: &[u32]) -> (usize, usize) {
+    match first_of(records, places) {
+        Some(first) if first.reads().is_pair() => (places.len(), 0),
+        _ => (0, places.len()),
+    }
+}
+
+// The record at the first of these places.
+fn first_of<'a>(records: &'a [Record], places: &[u32]) -> Option<&'a Record> {
+    let first = places.first()?;
+    records.get(*first as usize)
 }
 
 /// The record that has what those at these places have together, of which it is the sum.

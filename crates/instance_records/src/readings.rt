@@ -121,7 +121,7 @@ impl Readings {
 
     /// Whether these are two readings that lie by themselves.
     #[inline(always)]
-    pub(crate) fn is_pair(&self) -> bool {
+    pub fn is_pair(&self) -> bool {
         match &self.held {
             Held::Two(_) => true,
             Held::Shared(_) => false,
