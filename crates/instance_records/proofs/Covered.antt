@@ -34,10 +34,10 @@ of_t : (b : Bool) → T b → b ≡ true
 of_t true t = refl
 of_t false t = absurd t
 
-le_is : (a b : ℤ) → a ≤ℤ b → int_le a b ≡ true
+pub le_is : (a b : ℤ) → a ≤ℤ b → int_le a b ≡ true
 le_is a b h = of_t (int_le a b) h.le
 
-is_le : (a b : ℤ) → int_le a b ≡ true → a ≤ℤ b
+pub is_le : (a b : ℤ) → int_le a b ≡ true → a ≤ℤ b
 is_le a b e = le_z_yes (subst T (sym e) tt)
 
 or_left : (a b : Bool) → a ≡ true → a || b ≡ true

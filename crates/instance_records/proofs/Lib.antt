@@ -8,3 +8,5 @@ pub mod Joined
 pub mod Sharing
 pub mod Runs
 pub mod Together
+pub mod Sums
+pub mod Holding

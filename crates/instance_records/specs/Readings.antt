@@ -1,10 +1,12 @@
 -- What an instance and those below it have read, one after another, and whether the spans of rows there hold it.
-use Rattle.std.specs.Prelude.{Bool, true, ◌&&◌, List, [], ◌++◌, map, Option, Some, None, Box}
+use Rattle.std.specs.Prelude.{Bool, true, false, ◌&&◌, List, [], ◌++◌, map, Option, Some, None, Box}
 use Rattle.std.specs.declared.alloc.Global.{Global}
 use Rattle.std.specs.declared.sync.Arc.{Arc}
 use Rattle.std.specs.Arc.{arc_value}
 use Rattle.std.specs.List.{flat_map}
 use Rattle.evaluation.specs.declared.note.Note.{Note}
+use Rattle.evaluation.specs.declared.reading.Reading.{Reading}
+use Rattle.evaluation.specs.declared.reading.Reading.TheVariants as r
 use Rattle.meaning.specs.Every.{every}
 use Rattle.instance_records.specs.declared.readings.Node.{Node, Node-F, fold-Node}
 use Rattle.instance_records.specs.declared.readings.Below.{Below, Below-F, fold-Below}
@@ -13,6 +15,13 @@ use Rattle.instance_records.specs.declared.readings.Held.TheVariants.{Two, Share
 use Rattle.evaluation.specs.Short.{note_of}
 use Rattle.instance_records.specs.ShortLists.{items_in}
 use Rattle.instance_records.specs.Spans.{is_covered_by}
+
+-- it is of a sum
+abbrev pub is_a_sum : Reading → Bool
+is_a_sum (r.Sum c t v) = true
+is_a_sum (r.Cell c t row v) = false
+is_a_sum (r.Has there t row) = false
+is_a_sum (r.Limit t v) = false
 
 -- lists one after another
 abbrev pub all_of : List (List Note) → List Note

@@ -1,7 +1,8 @@
 -- Stretches of rows in which what was read lies, one for each table.
-use Rattle.std.specs.Prelude.{ℕ, nat_eq, ℤ, int_le, Bool, true, false, cond, ◌&&◌, ◌||◌, List, [], ◌∷◌, pos}
+use Rattle.std.specs.Prelude.{ℕ, nat_eq, ℤ, int_le, Bool, true, false, not, cond, ◌&&◌, ◌||◌, List, [], ◌∷◌, pos}
 use Rattle.std.specs.Int.{int_min, int_max}
 use Rattle.std.specs.List.{list_any}
+use Rattle.meaning.specs.Every.{every}
 use Rattle.evaluation.specs.declared.note.Note.{Note}
 use Rattle.evaluation.specs.declared.note.Note.TheVariants as n
 use Rattle.evaluation.specs.declared.reading.Reading.{Reading}
@@ -48,3 +49,10 @@ put_span (x ∷ xs) s = cond (nat_eq x.table s.table) (joined x s ∷ xs) (x ∷
 abbrev pub put_spans : List Span → List Span → List Span
 put_spans xs [] = xs
 put_spans xs (s ∷ ss) = put_spans (put_span xs s) ss
+
+-- the rows of the second are rows of the first
+abbrev pub has_rows : Span → Span → Bool
+has_rows s x = nat_eq s.table x.table && (s.whole || (not x.whole && (int_le s.low x.low && int_le x.high s.high)))
+
+abbrev pub hold_rows : List Span → List Span → Bool
+hold_rows spans others = every (λ x. list_any (λ s. has_rows s x) spans) others

@@ -7,7 +7,7 @@ ghost use Rattle.instance_records.specs.Spans.{is_covered_by, is_touched};
 
 use crate::readings::Readings;
 use crate::record::Record;
-use crate::spans::{Span, are_touched, put_spans, reach};
+use crate::spans::{Span, are_touched, hold_rows, put_spans, reach};
 use std::alloc::{AllocError, Global};
 use std::marker::Model;
 
@@ -61,6 +61,21 @@ impl Hull {
         ensures put { OnOk result (every (is_covered_by self.new) reads.now ≡ true) }
     {
         reads.put_rows(&mut self.spans)
+    }
+
+    /// Whether all that lies in the other lies in it.
+    pub fn holds(&self, other: &Hull) -> bool
+        ensures held { result ≡ true → (note : PlainNote) → is_covered_by other.now note ≡ true
+            → is_covered_by self.now note ≡ true }
+    {
+        hold_rows(&self.spans, &other.spans)
+    }
+
+    /// Whether all that was read lies in it.
+    pub fn has(&self, reads: &Readings) -> bool
+        ensures has { result ≡ true → every (is_covered_by self.now) reads.now ≡ true }
+    {
+        reads.lie_in(&self.spans)
     }
 
     /// Whether it has a row with which the other begins.

@@ -1,5 +1,5 @@
 //! What instances have read, each by reference to what the instances below it have.
-ghost use Rattle.std.specs.Prelude.{◌≡◌, ◌≤◌, ◌++◌, ◌∷◌, [], IfOk, IfSome, OnOk, length, map, not, true, false};
+ghost use Rattle.std.specs.Prelude.{◌≡◌, ◌≤◌, ◌++◌, ◌∷◌, [], IfOk, IfSome, OnOk, ℕ, ℤ, length, map, not, true, false};
 ghost use Rattle.std.specs.List.{flat_map};
 ghost use Rattle.meaning.specs.Every.{every};
 ghost use Rattle.evaluation.specs.declared.note.Note.{Note as PlainNote};
@@ -17,8 +17,11 @@ use crate::hull::Hull;
 use crate::narrowing::{how_many, how_many_own, lowest, touched_own};
 use crate::pairs::{are_pairs, with_pairs};
 use crate::short_list::ShortList;
-use crate::spans::{Span, may_have, put_pair, put_read, put_spans};
-use crate::touching::{are_own_touched, node_is_touched};
+use crate::spans::{Span, cover_all, first_row, may_have, put_pair, put_read, put_spans};
+use crate::touching::{
+    are_own_touched, are_sums, may_have_sums, node_first_row, node_has_row, node_is_touched,
+    node_lies_in, node_reaches,
+};
 use crate::walks::{node_agrees, put_notes, put_own};
 use crate::ways::{HERE, own_by, way_to};
 use evaluation::note::Note;
@@ -259,14 +262,6 @@ impl Readings {
         }
     }
 
-    /// Whether what instances below have read reaches over the rows with which that hull begins.
-    pub fn reach_over(&self, hull: &Hull) -> bool {
-        match &self.held {
-            Held::Two(_) => false,
-            Held::Shared(node) => node_reaches(node, hull),
-        }
-    }
-
     /// How many of these readings and how many of those were read, all of which rest on the change. It takes no memory, and looks for
     /// them in the lowest instance that has read all that the change may have changed.
     pub fn how_many(&self, change: &(usize, i64), lost: &[Note], won: &[Note]) -> (u64, u64)
@@ -301,15 +296,61 @@ impl Readings {
         }
     }
 
-    /// The own readings of the instance to which these turns lead.
+    /// The own readings of the instance to which these turns lead, as far as they do.
     #[inline(always)]
-    pub fn own_by(&self, turns: u64) -> Option<&[Reading]>
-        ensures read { IfSome result (λ own. (note : PlainNote)
-            → is_read (map note_of own.now) note ≡ true → is_read self.now note ≡ true) }
+    pub fn own_by(&self, turns: u64) -> &[Reading]
+        ensures read { (note : PlainNote)
+            → is_read (map note_of result.now) note ≡ true → is_read self.now note ≡ true }
     {
         match &self.held {
-            Held::Two(pair) => Some(pair),
+            Held::Two(pair) => pair,
             Held::Shared(node) => own_by(node, turns),
+        }
+    }
+
+    /// Whether a sum may have been read, by its own readings and the spans of the others.
+    #[inline(always)]
+    pub fn may_have_sums(&self) -> bool
+        ensures none { result ≡ false → (table column : ℕ) (value : ℤ)
+            → is_read self.now (Sum table column value) ≡ false }
+    {
+        match &self.held {
+            Held::Two(pair) => are_sums(pair),
+            Held::Shared(node) => may_have_sums(node),
+        }
+    }
+
+    /// Whether the rows of all that was read lie in these spans.
+    pub(crate) fn lie_in(&self, spans: &[Span]) -> bool
+        ensures lie { result ≡ true → every (is_covered_by spans.now) self.now ≡ true }
+    {
+        match &self.held {
+            Held::Two(pair) => cover_all(spans, pair),
+            Held::Shared(node) => node_lies_in(node, spans),
+        }
+    }
+
+    /// Whether what instances below have read reaches over the rows with which that hull begins.
+    pub fn reach_over(&self, hull: &Hull) -> bool {
+        match &self.held {
+            Held::Two(_) => false,
+            Held::Shared(node) => node_reaches(node, hull),
+        }
+    }
+
+    /// Whether what instances below have read has the row with which the other begins.
+    pub fn reach(&self, other: &Readings) -> bool {
+        match &self.held {
+            Held::Two(_) => false,
+            Held::Shared(node) => node_has_row(node, other.first_row()),
+        }
+    }
+
+    // A row that was read, by the number of its table and its own; none where all of a table's were.
+    fn first_row(&self) -> Option<(usize, i64)> {
+        match &self.held {
+            Held::Two(pair) => first_row(pair, &[]),
+            Held::Shared(node) => node_first_row(node),
         }
     }
 
@@ -335,14 +376,6 @@ impl Readings {
             Held::Shared(node) => put_notes(node, &mut notes)?,
         }
         Ok(notes)
-    }
-}
-
-// Whether what instances below have read reaches over the rows with which that hull begins.
-fn node_reaches(node: &Node, hull: &Hull) -> bool {
-    match &node.below {
-        Some(below) => hull.is_reached_by(&below.spans),
-        None => false,
     }
 }
 

@@ -5,7 +5,7 @@ ghost use Rattle.std.specs.List.{list_any};
 ghost use Rattle.evaluation.specs.declared.note.Note.{Note as PlainNote};
 ghost use Rattle.evaluation.specs.Short.{note_of};
 ghost use Rattle.meaning.specs.Every.{every};
-ghost use Rattle.instance_records.specs.Spans.{span_of, has_row, covers, lies_in, joined, put_span, put_spans, is_covered_by, is_touched};
+ghost use Rattle.instance_records.specs.Spans.{span_of, has_row, has_rows, hold_rows, covers, lies_in, joined, put_span, put_spans, is_covered_by, is_touched};
 
 use evaluation::note::Note;
 use evaluation::reading::Reading;
@@ -108,6 +108,31 @@ impl Span {
             Note::Limit { table, .. } => self.is_of(*table) && self.whole,
             Note::Sum { table, .. } => self.is_of(*table) && self.whole,
         }
+    }
+
+    // Whether its rows are all that a reading rests on.
+    #[inline(always)]
+    fn covers_reading(&self, reading: &Reading) -> bool
+        ensures covers { result ≡ covers (note_of reading.now) self.now }
+    {
+        match reading {
+            Reading::Cell { table, row, .. } => {
+                self.is_of(usize::from(*table)) && self.has_row(i64::from(*row))
+            }
+            Reading::Has { table, row, .. } => self.is_of(usize::from(*table))
+                && self.has_row(*row),
+            Reading::Limit { table, .. } => self.is_of(usize::from(*table)) && self.whole,
+            Reading::Sum { table, .. } => self.is_of(usize::from(*table)) && self.whole,
+        }
+    }
+
+    // Whether the rows of the other are among these.
+    #[inline(always)]
+    fn has_rows(&self, other: &Span) -> bool
+        ensures rows { result ≡ has_rows self.now other.now }
+    {
+        self.table == other.table
+            && (self.whole || !other.whole && self.low <= other.low && other.high <= self.high)
     }
 
     // Whether it is one of the table of that number.
@@ -240,6 +265,69 @@ pub(crate) fn are_touched(spans: &[Span], changes: &[(usize, i64)]) -> bool
     false
 }
 
+/// Whether the rows of all of the others are among those of one of the spans.
+pub(crate) fn hold_rows(spans: &[Span], others: &[Span]) -> bool
+    ensures rows { result ≡ hold_rows spans.now others.now }
+{
+    for other in others {
+        if !have_rows(spans, other) {
+            return false;
+        }
+    }
+    true
+}
+
+// Whether the rows of the other are among those of one of the spans.
+#[inline(always)]
+fn have_rows(spans: &[Span], other: &Span) -> bool
+    ensures rows { result ≡ list_any (λ s. has_rows s other.now) spans.now }
+{
+    for span in spans {
+        if span.has_rows(other) {
+            return true;
+        }
+    }
+    false
+}
+
+/// Whether the rows of all of these readings lie in one of the spans.
+pub(crate) fn cover_all(spans: &[Span], own: &[Reading]) -> bool
+    ensures covered { result ≡ every (is_covered_by spans.now) (map note_of own.now) }
+{
+    for reading in own {
+        if !cover(spans, reading) {
+            return false;
+        }
+    }
+    true
+}
+
+// Whether the rows of the reading lie in one of the spans.
+#[inline(always)]
+fn cover(spans: &[Span], reading: &Reading) -> bool
+    ensures covered { result ≡ is_covered_by spans.now (note_of reading.now) }
+{
+    for span in spans {
+        if span.covers_reading(reading) {
+            return true;
+        }
+    }
+    false
+}
+
+/// Whether one of the spans has all rows.
+#[inline(always)]
+pub(crate) fn is_one_whole(spans: &[Span]) -> bool
+    ensures whole { result ≡ list_any (λ s. s.whole) spans.now }
+{
+    for span in spans {
+        if span.whole {
+            return true;
+        }
+    }
+    false
+}
+
 /// Whether these have a row with which one of the others begins.
 pub(crate) fn reach(spans: &[Span], others: &[Span]) -> bool {
     for other in others {
@@ -249,6 +337,18 @@ pub(crate) fn reach(spans: &[Span], others: &[Span]) -> bool {
         }
     }
     false
+}
+
+/// The row with which the first of the readings begins, or else the first of the spans; none where that has all rows.
+pub(crate) fn first_row(own: &[Reading], spans: &[Span]) -> Option<(usize, i64)> {
+    let first = match own.get(0) {
+        Some(reading) => Span::new(reading),
+        None => *spans.get(0)?,
+    };
+    if first.whole {
+        return None;
+    }
+    Some((usize::from(first.table), first.low))
 }
 
 fn has_one(span: &Span, changes: &[(usize, i64)]) -> bool

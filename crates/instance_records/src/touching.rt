@@ -1,15 +1,20 @@
 // Whether changes of rows may have changed what was read.
-ghost use Rattle.std.specs.Prelude.{◌≡◌, ◌&&◌, map, nat_eq, true, false};
+ghost use Rattle.std.specs.Prelude.{◌≡◌, ◌&&◌, ℕ, ℤ, map, nat_eq, true, false};
 ghost use Rattle.std.specs.List.{list_any};
 ghost use Rattle.std.specs.Ordering.{int_eq};
 ghost use Rattle.meaning.specs.Every.{every};
+ghost use Rattle.evaluation.specs.declared.note.Note.TheVariants.{Sum};
 ghost use Rattle.evaluation.specs.Short.{note_of};
-ghost use Rattle.instance_records.specs.Readings.{node_notes, is_covered};
+ghost use Rattle.instance_records.specs.Spans.{is_covered_by};
+ghost use Rattle.instance_records.specs.Readings.{node_notes, is_a_sum, is_covered};
 ghost use Rattle.record_theory.specs.InStep.{rests_on, is_apart};
+ghost use Rattle.record_theory.specs.Same.{is_read};
 
+use crate::hull::Hull;
 use crate::readings::Node;
-use crate::spans::are_touched;
+use crate::spans::{Span, are_touched, cover_all, first_row, hold_rows, is_one_whole};
 use evaluation::reading::Reading;
+use std::slice;
 
 /// Whether one of the changes may have changed what was read there or below.
 #[inline(always)]
@@ -23,6 +28,47 @@ pub(crate) fn node_is_touched(node: &Node, changes: &[(usize, i64)]) -> bool
     match &node.below {
         Some(below) => are_touched(&below.spans, changes),
         None => false,
+    }
+}
+
+/// Whether what instances below have read reaches over the rows with which that hull begins.
+pub(crate) fn node_reaches(node: &Node, hull: &Hull) -> bool {
+    match &node.below {
+        Some(below) => hull.is_reached_by(&below.spans),
+        None => false,
+    }
+}
+
+/// Whether what instances below have read has that row, if there is one.
+pub(crate) fn node_has_row(node: &Node, row: Option<(usize, i64)>) -> bool {
+    match &node.below {
+        Some(below) => match row {
+            Some(row) => are_touched(&below.spans, slice::from_ref(&row)),
+            None => false,
+        },
+        None => false,
+    }
+}
+
+/// A row that was read there or below, by the number of its table and its own; none where all of a table's were.
+pub(crate) fn node_first_row(node: &Node) -> Option<(usize, i64)> {
+    match &node.below {
+        Some(below) => first_row(node.own.as_slice(), &below.spans),
+        None => first_row(node.own.as_slice(), &[]),
+    }
+}
+
+/// Whether the rows of all that was read there and below lie in these spans.
+pub(crate) fn node_lies_in(node: &Node, spans: &[Span]) -> bool
+    requires covered { is_covered node.now ≡ true }
+    ensures lies { result ≡ true → every (is_covered_by spans.now) (node_notes node.now) ≡ true }
+{
+    if !cover_all(spans, node.own.as_slice()) {
+        return false;
+    }
+    match &node.below {
+        Some(below) => hold_rows(spans, &below.spans),
+        None => true,
     }
 }
 
@@ -73,4 +119,44 @@ fn is_row(table: usize, row: i64, change: &(usize, i64)) -> bool
         return false;
     }
     table == change.0
+}
+
+/// Whether a sum may have been read there or below: one of the readings there is of a sum, or a span below has all rows.
+#[inline(always)]
+pub(crate) fn may_have_sums(node: &Node) -> bool
+    requires covered { is_covered node.now ≡ true }
+    ensures none { result ≡ false → (table column : ℕ) (value : ℤ)
+        → is_read (node_notes node.now) (Sum table column value) ≡ false }
+{
+    if are_sums(node.own.as_slice()) {
+        return true;
+    }
+    match &node.below {
+        Some(below) => is_one_whole(&below.spans),
+        None => false,
+    }
+}
+
+/// Whether one of these readings is of a sum.
+#[inline(always)]
+pub(crate) fn are_sums(own: &[Reading]) -> bool
+    ensures sums { result ≡ list_any is_a_sum own.now }
+{
+    for reading in own {
+        if is_sum(reading) {
+            return true;
+        }
+    }
+    false
+}
+
+// Whether the reading is of a sum.
+#[inline(always)]
+fn is_sum(reading: &Reading) -> bool
+    ensures sum { result ≡ is_a_sum reading.now }
+{
+    match reading {
+        Reading::Sum { .. } => true,
+        _ => false,
+    }
 }

@@ -79,31 +79,43 @@ fn is_near(node: &Node, change: &(usize, i64)) -> bool {
     }
 }
 
-/// The own readings of the instance to which these turns lead.
-#[cycle(ways)]
-pub(crate) fn own_by(node: &Node, turns: u64) -> Option<&[Reading]>
-    ensures read { IfSome result (λ own. (note : PlainNote)
-        → is_read (map note_of own.now) note ≡ true → is_read (node_notes node.now) note ≡ true) }
+/// The own readings of the instance to which these turns lead, as far as they do.
+#[inline(always)]
+pub(crate) fn own_by(node: &Node, turns: u64) -> &[Reading]
+    ensures read { (note : PlainNote)
+        → is_read (map note_of result.now) note ≡ true → is_read (node_notes node.now) note ≡ true }
 {
-    if turns == HERE {
-        return Some(node.own.as_slice());
+    node_by(node, turns).own.as_slice()
+}
+
+// The node to which these turns lead, as far as they do.
+#[cycle(ways)]
+fn node_by(node: &Node, turns: u64) -> &Node
+    ensures read { (note : PlainNote)
+        → is_read (node_notes result.now) note ≡ true → is_read (node_notes node.now) note ≡ true }
+{
+    if turns <= HERE {
+        return node;
     }
     match &node.below {
-        Some(below) => own_of(&below.parts, turns),
-        None => None,
+        Some(below) => node_of(&below.parts, node, turns),
+        None => node,
     }
 }
 
+// The node to which these turns lead from the one that has the parts.
 #[cycle(ways)]
-fn own_of(parts: &[Arc<Node>], turns: u64) -> Option<&[Reading]>
-    ensures read { IfSome result (λ own. (note : PlainNote) → is_read (map note_of own.now) note ≡ true
-        → is_read (flat_map shared_notes parts.now) note ≡ true) }
+fn node_of<'a>(parts: &'a [Arc<Node>], node: &'a Node, turns: u64) -> &'a Node
+    requires below { (note : PlainNote) → is_read (flat_map shared_notes parts.now) note ≡ true
+        → is_read (node_notes node.now) note ≡ true }
+    ensures read { (note : PlainNote)
+        → is_read (node_notes result.now) note ≡ true → is_read (node_notes node.now) note ≡ true }
 {
     let place = (turns % PARTS) as usize;
     if place >= parts.len() {
-        return None;
+        return node;
     }
-    own_by(&parts[place], turns / PARTS)
+    node_by(&parts[place], turns / PARTS)
 }
 
 /// The place of the first of these readings that rests on the change.

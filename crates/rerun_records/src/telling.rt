@@ -1,9 +1,10 @@
 // How the change of a row changes the numbers of records.
-ghost use Rattle.std.specs.Prelude.{◌≡◌, ◌≤◌, ◌<◌, ◌+◌, ◌++◌, ◌∷◌, [], IfSome, length, map, not, true, slice_set, Some};
+ghost use Rattle.std.specs.Prelude.{◌≡◌, ◌≤◌, ◌<◌, ◌+◌, ◌++◌, ◌∷◌, [], ℕ, ℤ, IfSome, length, map, not, true, false, slice_set, Some};
 ghost use Rattle.meaning.specs.Every.{every};
 ghost use Rattle.rerun_records.specs.Blocks.{BlocksFit};
 ghost use Rattle.record_theory.specs.InStep.{is_apart};
 ghost use Rattle.evaluation.specs.declared.note.Note.{Note as PlainNote};
+ghost use Rattle.evaluation.specs.declared.note.Note.TheVariants.{Sum};
 ghost use Rattle.evaluation.specs.Short.{note_of};
 ghost use Rattle.record_theory.specs.Counts.{how_many};
 ghost use Rattle.rerun_records.specs.Covers.{AreApart, AreCovered};
@@ -99,10 +100,11 @@ fn tell_from(
     ensures places { length numbers.new ≡ length list.now }
     ensures fit { BlocksFit (with_numbers numbers.new list.now) blocks.new }
 {
-    let known = first_counts(list[place].reads(), edit.change, edit.lost, edit.won);
+    let reads = list[place].reads();
+    let mut way = way_to(reads, edit);
+    let known = first_counts(reads, edit, way);
     let number = number_after(numbers[place], known.more, known.fewer);
     renumber(numbers, blocks, list, place, number);
-    let mut way = way_to(list[place].reads(), edit);
     let mut end = place;
     while let Some(place) = covers.next_touched(list, end, edit.change) {
         let number = told_by_way(numbers[place], list[place].reads(), edit, known, &mut way);
@@ -135,9 +137,33 @@ struct Counted<'a> {
     fewer: u64,
 }
 
-// Counts those of the record that has read that.
+// Counts those of the record that has read that, by the way where it leads to a reading of each cell.
 #[inline(always)]
-fn first_counts<'a>(
+fn first_counts<'a>(reads: &'a Readings, edit: Edit<'_>, way: Way) -> Counted<'a>
+    requires rest { every (λ n. not (is_apart (edit.change.now ∷ []) n)) (edit.lost.now ++ edit.won.now) ≡ true }
+    requires once { IsOfOneTime reads.now }
+    ensures more { result.more ≡ how_many same_note edit.entry.lost.now reads.now }
+    ensures fewer { result.fewer ≡ how_many same_note edit.entry.won.now reads.now }
+    ensures few { result.more ≤ length edit.entry.lost.now }
+    ensures own { result.is_known ≡ true
+        → result.more ≡ how_many same_note edit.entry.lost.now (map note_of result.own.now) }
+    ensures own_fewer { result.is_known ≡ true
+        → result.fewer ≡ how_many same_note edit.entry.won.now (map note_of result.own.now) }
+{
+    match counts_by(reads, edit, way) {
+        Some((more, fewer)) => Counted {
+            own: &[],
+            is_known: false,
+            more,
+            fewer,
+        },
+        None => lowest_counts(reads, edit.change, edit.lost, edit.won),
+    }
+}
+
+// Counts those of the record that has read that, in the lowest instance that has read all that the change may have changed.
+#[inline(never)]
+fn lowest_counts<'a>(
     reads: &'a Readings,
     change: &(usize, i64),
     lost: &[Note],
@@ -185,10 +211,7 @@ fn way_to(reads: &Readings, edit: Edit<'_>) -> Way {
     } else {
         NONE
     };
-    let first = match reads.own_by(turns) {
-        Some(own) => first_touched(own, edit.change),
-        None => 0,
-    };
+    let first = first_touched(reads.own_by(turns), edit.change);
     Way { turns, first }
 }
 
@@ -229,23 +252,32 @@ fn counts_by(reads: &Readings, edit: Edit<'_>, way: Way) -> Option<(u64, u64)>
     ensures fewer { IfSome result (λ counts. counts.1 ≡ how_many same_note edit.entry.won.now reads.now) }
     ensures few { IfSome result (λ counts. counts.0 ≤ length edit.entry.lost.now) }
 {
-    let own = reads.own_by(way.turns)?;
-    let more = count_by(reads, own, way.first, edit.lost)?;
-    let fewer = count_by(reads, own, way.first, edit.won)?;
+    let own = reads.own_by(way.turns);
+    let sums = reads.may_have_sums();
+    let more = count_by(reads, own, way.first, sums, edit.lost)?;
+    let fewer = count_by(reads, own, way.first, sums, edit.won)?;
     Some((more, fewer))
 }
 
-// How many of these were read, where a reading of each cell lies among the own ones from that place on.
+// How many of these were read, where a reading of each cell lies among the own ones from that place on. Sums are looked for where there may
+// be some.
 #[inline(always)]
-fn count_by(reads: &Readings, own: &[Reading], first: usize, notes: &[Note]) -> Option<u64>
+fn count_by(
+    reads: &Readings,
+    own: &[Reading],
+    first: usize,
+    sums: bool,
+    notes: &[Note],
+) -> Option<u64>
     requires once { IsOfOneTime reads.now }
+    requires none { sums ≡ false → (table column : ℕ) (value : ℤ) → is_read reads.now (Sum table column value) ≡ false }
     requires within { (note : PlainNote) → is_read (map note_of own.now) note ≡ true → is_read reads.now note ≡ true }
     ensures many { IfSome result (λ count. count ≡ how_many same_note notes.now reads.now) }
     ensures few { IfSome result (λ count. count ≤ length notes.now) }
 {
     let mut count = 0;
     for note in notes {
-        let there = is_read_by(reads, own, first, note)?;
+        let there = is_read_by(reads, own, first, sums, note)?;
         if there {
             count += 1;
         }
@@ -255,8 +287,15 @@ fn count_by(reads: &Readings, own: &[Reading], first: usize, notes: &[Note]) -> 
 
 // Whether that was read, where it is no cell or a reading of the cell lies among the own ones from that place on.
 #[inline(always)]
-fn is_read_by(reads: &Readings, own: &[Reading], first: usize, note: &Note) -> Option<bool>
+fn is_read_by(
+    reads: &Readings,
+    own: &[Reading],
+    first: usize,
+    sums: bool,
+    note: &Note,
+) -> Option<bool>
     requires once { IsOfOneTime reads.now }
+    requires none { sums ≡ false → (table column : ℕ) (value : ℤ) → is_read reads.now (Sum table column value) ≡ false }
     requires within { (note : PlainNote) → is_read (map note_of own.now) note ≡ true → is_read reads.now note ≡ true }
     ensures read { IfSome result (λ answer. answer ≡ is_read reads.now note.now) }
 {
@@ -270,6 +309,7 @@ fn is_read_by(reads: &Readings, own: &[Reading], first: usize, note: &Note) -> O
             let held = value_near(own, first, *table, *row, *column)?;
             Some(held == *value)
         }
+        Note::Sum { .. } => Some(sums && reads.has(note)),
         _ => Some(reads.has(note)),
     }
 }

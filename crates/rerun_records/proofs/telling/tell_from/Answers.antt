@@ -26,8 +26,8 @@ loop-place-init c =
     let is_then : number ≡ number_then lost won (get_or numbers place 0) c.index-list-place.result.reads =
     c.number_after-number.ensures.after
     ∙ ap (λ (m : ℕ). number_by (get_or numbers place 0) m counts.result.fewer) counts.ensures.more
-    ∙ ap (λ (m : ℕ). number_by (get_or numbers place 0) (how_many same_note lost c.reads.result.now) m) counts.ensures.fewer
-    ∙ ap (number_then lost won (get_or numbers place 0)) c.reads.ensures.reads in
+    ∙ ap (λ (m : ℕ). number_by (get_or numbers place 0) (how_many same_note lost c.reads-reads.result.now) m) counts.ensures.fewer
+    ∙ ap (number_then lost won (get_or numbers place 0)) c.reads-reads.ensures.reads in
     record {
       within = omega (arith, there);
       places = ap length numbered ∙ length-set numbers place number ∙ many;
@@ -60,7 +60,7 @@ loop-place-preserved c =
       small = subst (λ (ns : List ℕ). (i : ℕ) → get_or ns i 0 ≤ most_number) (sym numbered) (small_set l.numbers place number small l.invariant.small);
       told = ap (λ ns. told_to c.args.edit.lost.now c.args.edit.won.now place ns list) numbered
           ∙ told_one c.args.edit.lost.now c.args.edit.won.now place l.numbers list number c.index-list-place-in-Some.result has_number there
-          (c.told_by_way-number.ensures.told ∙ ap (number_then c.args.edit.lost.now c.args.edit.won.now (get_or l.numbers place 0)) c.reads-in-Some.ensures.reads) c.index-list-place-in-Some.is
+          (c.told_by_way-number.ensures.told ∙ ap (number_then c.args.edit.lost.now c.args.edit.won.now (get_or l.numbers place 0)) c.reads.ensures.reads) c.index-list-place-in-Some.is
           ∙ ap (λ k. told_to c.args.edit.lost.now c.args.edit.won.now k l.numbers list) (sym next)
           ∙ told_apart c.args.edit.change.now c.args.edit.lost.now c.args.edit.won.now (place + 1) l.end l.numbers list c.requires.rest l.invariant.small (omega (arith, before)) c.in-Some.ensures.apart
           ∙ l.invariant.told;

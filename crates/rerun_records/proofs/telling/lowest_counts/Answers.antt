@@ -2,7 +2,7 @@ use Rattle.std.proofs.Common.{[], ◌∷◌, map, ◌∙◌}
 use Rattle.evaluation.specs.Short.{note_of}
 use Rattle.record_theory.specs.InStep.{is_apart}
 use Rattle.instance_records.proofs.Narrowed.{same_many, left_rest, right_rest}
-use Rattle.rerun_records.proofs.telling.first_counts.Goals as goal
+use Rattle.rerun_records.proofs.telling.lowest_counts.Goals as goal
 
 pub returns-in-Some-clause-more : goal.returns-in-Some-clause-more
 returns-in-Some-clause-more c =
