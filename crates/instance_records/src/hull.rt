@@ -7,7 +7,7 @@ ghost use Rattle.instance_records.specs.Spans.{is_covered_by, is_touched};
 
 use crate::readings::Readings;
 use crate::record::Record;
-use crate::spans::{Span, are_touched, hold_rows, put_spans, reach};
+use crate::spans::{Span, are_touched, hold_rows, put_spans};
 use std::alloc::{AllocError, Global};
 use std::marker::Model;
 
@@ -76,16 +76,6 @@ impl Hull {
         ensures has { result ≡ true → every (is_covered_by self.now) reads.now ≡ true }
     {
         reads.lie_in(&self.spans)
-    }
-
-    /// Whether it has a row with which the other begins.
-    pub fn reaches_over(&self, before: &Hull) -> bool {
-        before.is_reached_by(&self.spans)
-    }
-
-    /// Whether these spans have a row with which it begins.
-    pub(crate) fn is_reached_by(&self, spans: &[Span]) -> bool {
-        reach(spans, &self.spans)
     }
 
     /// Whether one of these changes, each given by its table's number and the row, lies in it.

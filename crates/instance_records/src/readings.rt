@@ -13,14 +13,13 @@ ghost use Rattle.record_theory.specs.InStep.{is_apart};
 ghost use Rattle.record_theory.specs.Counts.{how_many};
 ghost use Rattle.record_theory.specs.Same.{is_read, same_note};
 
-use crate::hull::Hull;
 use crate::narrowing::{how_many, how_many_own, lowest, touched_own};
 use crate::pairs::{are_pairs, with_pairs};
 use crate::short_list::ShortList;
 use crate::spans::{Span, cover_all, first_row, may_have, put_pair, put_read, put_spans};
 use crate::touching::{
     are_own_touched, are_sums, may_have_sums, node_first_row, node_has_row, node_is_touched,
-    node_lies_in, node_reaches,
+    node_lies_in,
 };
 use crate::walks::{node_agrees, put_notes, put_own};
 use crate::ways::{HERE, own_by, way_to};
@@ -327,14 +326,6 @@ impl Readings {
         match &self.held {
             Held::Two(pair) => cover_all(spans, pair),
             Held::Shared(node) => node_lies_in(node, spans),
-        }
-    }
-
-    /// Whether what instances below have read reaches over the rows with which that hull begins.
-    pub fn reach_over(&self, hull: &Hull) -> bool {
-        match &self.held {
-            Held::Two(_) => false,
-            Held::Shared(node) => node_reaches(node, hull),
         }
     }
 

@@ -11,7 +11,6 @@ use evaluation::note::Note;
 use evaluation::reading::Reading;
 use record_numbers::rows::rows_of_both;
 use std::alloc::AllocError;
-use std::slice;
 
 /// The rows of a table from the lowest that was read to the greatest; all of them, where its limit or a sum was.
 #[derive(Clone, Copy)]
@@ -322,17 +321,6 @@ pub(crate) fn is_one_whole(spans: &[Span]) -> bool
 {
     for span in spans {
         if span.whole {
-            return true;
-        }
-    }
-    false
-}
-
-/// Whether these have a row with which one of the others begins.
-pub(crate) fn reach(spans: &[Span], others: &[Span]) -> bool {
-    for other in others {
-        let begin = (usize::from(other.table), other.low);
-        if !other.whole && are_touched(spans, slice::from_ref(&begin)) {
             return true;
         }
     }

@@ -10,7 +10,6 @@ ghost use Rattle.instance_records.specs.Readings.{node_notes, is_a_sum, is_cover
 ghost use Rattle.record_theory.specs.InStep.{rests_on, is_apart};
 ghost use Rattle.record_theory.specs.Same.{is_read};
 
-use crate::hull::Hull;
 use crate::readings::Node;
 use crate::spans::{Span, are_touched, cover_all, first_row, hold_rows, is_one_whole};
 use evaluation::reading::Reading;
@@ -27,14 +26,6 @@ pub(crate) fn node_is_touched(node: &Node, changes: &[(usize, i64)]) -> bool
     }
     match &node.below {
         Some(below) => are_touched(&below.spans, changes),
-        None => false,
-    }
-}
-
-/// Whether what instances below have read reaches over the rows with which that hull begins.
-pub(crate) fn node_reaches(node: &Node, hull: &Hull) -> bool {
-    match &node.below {
-        Some(below) => hull.is_reached_by(&below.spans),
         None => false,
     }
 }

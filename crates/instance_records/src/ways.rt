@@ -35,44 +35,59 @@ pub fn behind_first(turns: u64) -> u64 {
 }
 
 /// The turns from there down to readings of one instance's own that may rest on the change.
-#[cycle(finding)]
 pub(crate) fn way_to(node: &Node, change: &(usize, i64)) -> u64 {
+    way_from(node, change, 0, HERE)
+}
+
+// These turns with those from there down, of which the first is a digit of that unit.
+#[cycle(finding)]
+fn way_from(node: &Node, change: &(usize, i64), turns: u64, unit: u64) -> u64 {
     match &node.below {
         Some(below) => {
             if are_own_touched(node.own.as_slice(), slice::from_ref(change)) {
-                return HERE;
+                return turns.wrapping_add(unit);
             }
-            way_through(&below.parts, change)
+            way_through(&below.parts, change, turns, unit)
         }
-        None => HERE,
+        None => turns.wrapping_add(unit),
     }
 }
 
 #[cycle(finding)]
-fn way_through(parts: &[Arc<Node>], change: &(usize, i64)) -> u64 {
-    for place in 0..parts.len() {
-        if is_near(&parts[place], change) {
-            let rest = way_to(&parts[place], change);
-            return with_turn(place, rest);
-        }
-    }
-    NONE
-}
-
-// The way with that turn before it, if there is room for it.
-fn with_turn(place: usize, rest: u64) -> u64 {
+fn way_through(parts: &[Arc<Node>], change: &(usize, i64), turns: u64, unit: u64) -> u64 {
+    let place = first_near(parts, change);
     let turn = place as u64;
-    if rest == NONE || rest >= MOST || turn >= PARTS {
+    if place >= parts.len() || turn >= PARTS || unit >= MOST {
         return NONE;
     }
-    rest.wrapping_mul(PARTS).wrapping_add(turn)
+    let more = turns.wrapping_add(unit.wrapping_mul(turn));
+    way_from(&parts[place], change, more, unit.wrapping_mul(PARTS))
+}
+
+// The first of the parts in which the change may have changed what was read, or the last: it needn't be asked, as it is gone down anyway.
+#[inline(always)]
+fn first_near(parts: &[Arc<Node>], change: &(usize, i64)) -> usize {
+    let last = parts.len().saturating_sub(1);
+    for place in 0..last {
+        if is_near(&parts[place], change) {
+            return place;
+        }
+    }
+    last
 }
 
 // Whether the change may have changed what was read there or below.
+#[inline(always)]
 fn is_near(node: &Node, change: &(usize, i64)) -> bool {
-    if are_own_touched(node.own.as_slice(), slice::from_ref(change)) {
+    if is_below(node, change) {
         return true;
     }
+    are_own_touched(node.own.as_slice(), slice::from_ref(change))
+}
+
+// Whether the change may have changed what was read below.
+#[inline(always)]
+fn is_below(node: &Node, change: &(usize, i64)) -> bool {
     match &node.below {
         Some(below) => are_touched(&below.spans, slice::from_ref(change)),
         None => false,
@@ -118,14 +133,39 @@ fn node_of<'a>(parts: &'a [Arc<Node>], node: &'a Node, turns: u64) -> &'a Node
     node_by(&parts[place], turns / PARTS)
 }
 
-/// The place of the first of these readings that rests on the change.
+/// The place of the first of these readings that rests on the change, as soon as they are in the order of their rows.
 pub fn first_touched(own: &[Reading], change: &(usize, i64)) -> usize {
-    for place in 0..own.len() {
+    for place in first_behind(own, change.1)..own.len() {
         if rests_on(&own[place], change) {
             return place;
         }
     }
     own.len()
+}
+
+// The place behind all readings of rows before that one, where they are in the order of their rows.
+fn first_behind(own: &[Reading], row: i64) -> usize {
+    let mut low = 0;
+    let mut high = own.len();
+    while low < high {
+        let middle = low + (high - low) / 2;
+        if is_before(&own[middle], row) {
+            low = middle + 1;
+        } else {
+            high = middle;
+        }
+    }
+    low
+}
+
+// Whether the reading is of a row before that one.
+#[inline(always)]
+fn is_before(reading: &Reading, row: i64) -> bool {
+    match reading {
+        Reading::Cell { row: at, .. } => i64::from(*at) < row,
+        Reading::Has { row: at, .. } => *at < row,
+        _ => false,
+    }
 }
 
 /// The value with which one of a few readings from that place on was read of that cell.

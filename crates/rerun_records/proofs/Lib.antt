@@ -4,7 +4,7 @@ pub mod Finding
 pub mod OneTime
 pub mod Homes
 pub mod Covering
-pub mod Stretches
+pub mod Passing
 pub mod Leaves
 pub mod Wholes
 pub mod Instances

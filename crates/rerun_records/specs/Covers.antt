@@ -6,6 +6,7 @@ use Rattle.record_theory.specs.Record.{PlainRecord}
 use Rattle.instance_records.specs.declared.spans.Span.{Span}
 use Rattle.instance_records.specs.Spans.{is_covered_by, is_touched}
 use Rattle.record_theory.specs.InStep.{is_apart}
+use Rattle.rerun_records.specs.Skips.{PlainSkips, PassBut}
 
 -- hulls in order, each for so many places
 pub record PlainLevel : Type 0 where
@@ -33,31 +34,13 @@ AreLevelsBut places records (level ∷ levels) = CoversBut places records level 
 abbrev pub CoversLevel : List PlainRecord → PlainLevel → Type 0
 CoversLevel = CoversBut []
 
--- a hull of the records from a place up to another
-pub record PlainStretch : Type 0 where
-  pub first : ℕ
-  pub until : ℕ
-  pub hull : List Span
-
--- the stretch of each number lies among the 32 places of that number, and what the records at its places have read lies in its hull, but
--- maybe for those at these places
-pub record HoldBut (places : List ℕ) (records : List PlainRecord) (stretches : List PlainStretch) : Type 0 where
-  pub begins : (i : ℕ) (s : PlainStretch) → slice_get stretches i ≡ Some s → i * 32 ≤ s.first
-  pub ends : (i : ℕ) (s : PlainStretch) → slice_get stretches i ≡ Some s → s.until ≤ i * 32 + 32
-  pub full : (i : ℕ) (s : PlainStretch) → slice_get stretches i ≡ Some s → s.until ≤ length records
-  pub held :
-      (i p : ℕ) (s : PlainStretch) (r : PlainRecord) → slice_get stretches i ≡ Some s → s.first ≤ p → p < s.until
-      → list_any (nat_eq p) places ≡ false → slice_get records p ≡ Some r → every (is_covered_by s.hull) r.reads ≡ true
-
--- hulls by levels, and beside the narrowest ones those of their first and of their last places
+-- hulls by levels, and beside them those of instances around others
 pub record PlainCovers : Type 0 where
   pub levels : List PlainLevel
-  pub left : List PlainStretch
-  pub right : List PlainStretch
+  pub skips : PlainSkips
 
 abbrev pub AreCoveredBut : List ℕ → List PlainRecord → PlainCovers → Type 0
-AreCoveredBut places records covers =
-    AreLevelsBut places records covers.levels × (HoldBut places records covers.left × HoldBut places records covers.right)
+AreCoveredBut places records covers = AreLevelsBut places records covers.levels × PassBut places records covers.skips
 
 abbrev pub AreCovered : List PlainRecord → PlainCovers → Type 0
 AreCovered = AreCoveredBut []

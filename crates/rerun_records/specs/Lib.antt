@@ -1,3 +1,4 @@
 pub mod Put
 pub mod Blocks
 pub mod Covers
+pub mod Skips

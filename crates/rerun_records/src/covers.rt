@@ -7,10 +7,10 @@ ghost use Rattle.record_theory.specs.InStep.{is_apart};
 ghost use Rattle.record_theory.specs.Record.{PlainRecord};
 ghost use Rattle.instance_records.specs.Spans.{is_covered_by};
 ghost use Rattle.instance_records.specs.declared.spans.Span.{Span};
-ghost use Rattle.rerun_records.specs.Covers.{CoversBut, CoversLevel, HoldBut, AreCovered, AreApart, AreSameBut, is_hull_apart};
+ghost use Rattle.rerun_records.specs.Covers.{CoversBut, CoversLevel, AreCovered, AreApart, AreSameBut, is_hull_apart};
 
 use crate::listing::record_at;
-use crate::stretch::{self, Stretch, apart_by, part};
+use crate::skips::{Cursor, Skips};
 use instance_records::hull::Hull;
 use instance_records::readings::Readings;
 use instance_records::record::Record;
@@ -23,7 +23,7 @@ const WIDE: usize = 32_768;
 
 const MIDDLE: usize = 1_024;
 
-pub(crate) const NARROW: usize = 32;
+const NARROW: usize = 32;
 
 /// So many hulls of one width make one of the next.
 const TOGETHER: usize = 32;
@@ -34,10 +34,8 @@ pub(crate) struct Covers {
     wide: Vec<Hull>,
     middle: Vec<Hull>,
     narrow: Vec<Hull>,
-    // Where records reach far beyond the others of a narrow hull, as those of instances that have many below them do: hulls of the places
-    // before them and of those behind, by the narrow hull's number. No others have any.
-    left: Vec<Stretch>,
-    right: Vec<Stretch>,
+    // Hulls of instances around others.
+    skips: Skips,
 }
 
 impl Model for Covers {
@@ -50,8 +48,7 @@ impl Model for Covers {
       levels = record { width = 32768; hulls = c.wide.items }
           ∷ record { width = 1024; hulls = c.middle.items }
           ∷ record { width = 32; hulls = c.narrow.items } ∷ [];
-      left = c.left.items;
-      right = c.right.items;
+      skips = c.skips;
     } };
 }
 
@@ -64,28 +61,25 @@ impl Covers {
             wide: Vec::new(alloc),
             middle: Vec::new(alloc),
             narrow: Vec::new(alloc),
-            left: Vec::new(alloc),
-            right: Vec::new(alloc),
+            skips: Skips::new(alloc),
         }
     }
 
-    // From which place on, up to that end, no record has read what the change may have changed: the beginning of the widest hull or stretch
-    // that ends there and in which the row doesn't lie, or that end. Hulls end where a narrow one does, as stretches behind do, and those
-    // before only elsewhere: so at most places a single test is all.
+    // From which place on, up to that end, no record has read what the change may have changed, or that end: by the hull of an instance that
+    // ends there, or else by the widest of a level, where none of an instance ends soon before.
     #[inline(always)]
-    fn apart_to(&self, end: usize, change: &(usize, i64)) -> usize
+    fn apart_to(&self, end: usize, change: &(usize, i64), cursor: &mut Cursor) -> usize
         ensures within { result ≤ end }
         ensures apart { (records : List PlainRecord) → AreCovered records self.now
             → AreApart records change.now result end }
     {
-        if end % NARROW != 0 {
-            return apart_by(&self.left, end, change);
-        }
-        let first = self.apart_by_hull(end, change);
-        if first < end {
+        let first = self.skips.apart_to(end, change, cursor);
+        if first < end || !self.skips.are_far(end, cursor) {
             return first;
         }
-        apart_by(&self.right, end, change)
+        let first = self.apart_by_hull(end, change);
+        self.skips.move_to(first, end, cursor);
+        first
     }
 
     // From which place on, up to that end, no record has read what the change may have changed, by the widest hull that ends there.
@@ -95,6 +89,9 @@ impl Covers {
         ensures apart { (records : List PlainRecord) → AreCovered records self.now
             → AreApart records change.now result end }
     {
+        if end % NARROW != 0 {
+            return end;
+        }
         if end % MIDDLE == 0 {
             let first = apart_from(&self.wide, WIDE, end, change);
             if first < end {
@@ -109,13 +106,15 @@ impl Covers {
     }
 
     /// The last place before that end whose record may have read what the change of the row, given by its table's number and its own,
-    /// may have changed. It takes no memory, and passes over hulls in which the row doesn't lie.
+    /// may have changed. It takes no memory, and passes over hulls in which the row doesn't lie. The cursor is kept from one
+    /// to the next.
     #[inline(always)]
     pub(crate) fn next_touched(
         &self,
         list: &[Record],
         end: usize,
         change: &(usize, i64),
+        cursor: &mut Cursor,
     ) -> Option<usize>
         requires covered { AreCovered list.now self.now }
         ensures none { IfNone result (AreApart list.now change.now 0 end) }
@@ -124,12 +123,12 @@ impl Covers {
     {
         let mut last = end;
         while last > 0 {
-            let first = self.apart_to(last, change);
+            let first = self.apart_to(last, change, cursor);
             if first < last {
                 last = first;
             } else {
                 last -= 1;
-                if is_touched(record_at(list, last), change) {
+                if is_touched(cursor.is_around, record_at(list, last), change) {
                     return Some(last);
                 }
             }
@@ -149,29 +148,20 @@ impl Covers {
         put_in(&mut self.wide, WIDE, place, reads);
         put_in(&mut self.middle, MIDDLE, place, reads);
         put_in(&mut self.narrow, NARROW, place, reads);
-        stretch::put_in(&mut self.left, place, reads);
-        stretch::put_in(&mut self.right, place, reads);
+        self.skips.put_in(place, reads);
     }
 
     /// Makes hulls of the records whose places have none and are enough for one, as far as memory isn't refused. Only the narrowest
-    /// are made of the records, and each wider one of those that lie in it: so each record is looked at once, and once more where its hull
-    /// reaches over the one before it.
+    /// are made of the records, and each wider one of those that lie in it: so each record is looked at once, and once more where it is of an
+    /// instance around others.
     pub(crate) fn grow(&mut self, alloc: Global, list: &[Record])
         requires held { AreCovered list.now self.old }
         ensures held { AreCovered list.now self.new }
     {
-        let known = self.narrow.len();
         add_all(alloc, &mut self.narrow, NARROW, list);
         join_all(alloc, &mut self.middle, &self.narrow);
         join_all(alloc, &mut self.wide, &self.middle);
-        part_all(
-            alloc,
-            &mut self.left,
-            &mut self.right,
-            &self.narrow,
-            known,
-            list,
-        );
+        self.skips.grow(alloc, list);
     }
 }
 
@@ -217,11 +207,15 @@ fn apart_by_narrow(hulls: &[Hull], end: usize, change: &(usize, i64)) -> usize
     number * NARROW
 }
 
-// Whether the record, where there is one, may have read what the change may have changed.
-fn is_touched(record: Option<&Record>, change: &(usize, i64)) -> bool
+// Whether the record, where there is one, may have read what the change may have changed, if that isn't known.
+#[inline(always)]
+fn is_touched(is_known: bool, record: Option<&Record>, change: &(usize, i64)) -> bool
     ensures apart { result ≡ false → (r : PlainRecord) → option_copied record.entry ≡ Some r
         → every (is_apart (change.now ∷ [])) r.reads ≡ true }
 {
+    if is_known {
+        return true;
+    }
     match record {
         Some(record) => record.reads().are_touched(slice::from_ref(change)),
         None => false,
@@ -296,26 +290,6 @@ fn add(
     let hull = Hull::of(alloc, &list[first..first + width])?;
     hulls.push(hull)?;
     Ok(())
-}
-
-// Makes stretches beside the narrow hulls from that number on that reach over the one before them.
-fn part_all(
-    alloc: Global,
-    left: &mut Vec<Stretch>,
-    right: &mut Vec<Stretch>,
-    narrow: &[Hull],
-    known: usize,
-    list: &[Record],
-)
-    requires full { length narrow.now * 32 ≤ length list.now }
-    ensures left { HoldBut [] list.now left.old.items → HoldBut [] list.now left.new.items }
-    ensures right { HoldBut [] list.now right.old.items → HoldBut [] list.now right.new.items }
-{
-    for number in known..narrow.len() {
-        if number > 0 && narrow[number].reaches_over(&narrow[number - 1]) {
-            part(alloc, left, right, list, number, &narrow[number - 1]);
-        }
-    }
 }
 
 // Makes the wider hulls that are missing, of those that lie in them, as far as these are there and memory isn't refused.

@@ -11,5 +11,5 @@ mod level;
 mod listing;
 pub mod records;
 pub mod series;
-mod stretch;
+mod skips;
 mod telling;

@@ -14,6 +14,7 @@ ghost use Rattle.record_theory.specs.Same.{is_read, same_note};
 
 use crate::blocks::Blocks;
 use crate::covers::Covers;
+use crate::skips::Cursor;
 use evaluation::note::Note;
 use evaluation::reading::Reading;
 use instance_records::narrowing::how_many_own;
@@ -43,7 +44,8 @@ pub(crate) fn tell(
     ensures places { length numbers.new ≡ length list.now }
     ensures fit { BlocksFit (with_numbers numbers.new list.now) blocks.new }
 {
-    match covers.next_touched(list, list.len(), change) {
+    let mut cursor = Cursor::new();
+    match covers.next_touched(list, list.len(), change, &mut cursor) {
         Some(place) => {
             let is_of_cells = are_of_cells(lost) && are_of_cells(won);
             let edit = Edit {
@@ -52,7 +54,7 @@ pub(crate) fn tell(
                 won,
                 is_of_cells,
             };
-            tell_from(numbers, blocks, list, covers, place, edit);
+            tell_from(numbers, blocks, list, covers, place, &mut cursor, edit);
         }
         None => {}
     }
@@ -87,6 +89,7 @@ fn tell_from(
     list: &[Record],
     covers: &Covers,
     place: usize,
+    cursor: &mut Cursor,
     edit: Edit<'_>,
 )
     requires within { place < length list.now }
@@ -106,7 +109,7 @@ fn tell_from(
     let number = number_after(numbers[place], known.more, known.fewer);
     renumber(numbers, blocks, list, place, number);
     let mut end = place;
-    while let Some(place) = covers.next_touched(list, end, edit.change) {
+    while let Some(place) = covers.next_touched(list, end, edit.change, cursor) {
         let number = told_by_way(numbers[place], list[place].reads(), edit, known, &mut way);
         renumber(numbers, blocks, list, place, number);
         end = place;

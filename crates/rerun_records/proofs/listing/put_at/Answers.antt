@@ -1,7 +1,7 @@
 use Rattle.std.proofs.Common.{rules, ◌∙◌, ◌<◌, ◌≤◌, [], ◌∷◌, length, sym, subst}
 use Rattle.rerun_records.specs.Covers.{AreCovered, AreSameBut}
 use Rattle.rerun_records.proofs.Covering.{set_same_but}
-use Rattle.rerun_records.proofs.Stretches.{appended_covered}
+use Rattle.rerun_records.proofs.Passing.{appended_covered}
 use Rattle.rerun_records.proofs.Instances.{set_is_put, set_numbers, push_is_put}
 use Rattle.rerun_records.proofs.listing.put_at.Goals as goal
 

@@ -3,7 +3,7 @@ use Rattle.std.specs.Prelude.{slice_get}
 use Rattle.record_theory.specs.Record.{PlainRecord}
 use Rattle.rerun_records.specs.Covers.{PlainCovers, AreCoveredBut}
 use Rattle.rerun_records.proofs.Covering.{there_is}
-use Rattle.rerun_records.proofs.Stretches.{covered_but, past_covered}
+use Rattle.rerun_records.proofs.Passing.{covered_but, past_covered}
 use Rattle.rerun_records.proofs.covers.Covers.put_in.Goals as goal
 
 pub returns-then-place-list : goal.returns-then-place-list
@@ -22,6 +22,6 @@ returns c =
       held = λ before h same.
           let covered = subst (λ (cs : PlainCovers). AreCoveredBut (place ∷ []) list cs) (sym c.self.view_is) (covered_but (place ∷ []) before list c.args.self.now same h) in (
             (c.put_in.ensures.held list [] covered.0.0 is, (c.put_in-2.ensures.held list [] covered.0.1.0 is, (c.put_in-3.ensures.held list [] covered.0.1.1.0 is, tt))),
-            (c.put_in-4.ensures.held list [] covered.1.0 is, c.put_in-5.ensures.held list [] covered.1.1 is),
+            c.put_in-4.ensures.held list [] covered.1 is,
           );
     }

@@ -9,7 +9,7 @@ use Rattle.record_theory.specs.OneTime.{AreOfOneTime, IsOfOneTime}
 use Rattle.record_theory.specs.Record.{PlainRecord, as_made, instance_number}
 use Rattle.rerun_records.proofs.Leaves.{none_fit}
 use Rattle.rerun_records.proofs.OneTime.{first_once}
-use Rattle.rerun_records.proofs.Stretches.{appended_covered}
+use Rattle.rerun_records.proofs.Passing.{appended_covered}
 use Rattle.rerun_records.proofs.WithNumbers.{none_counted, none_in_view, first_put, zeros_numbers, zeros_view}
 use Rattle.rerun_records.proofs.records.Records.take_whole.Goals as goal
 
