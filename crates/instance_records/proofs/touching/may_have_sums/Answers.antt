@@ -1,7 +1,6 @@
-use Rattle.std.proofs.Common.{ap, map, sym, ◌∙◌}
+use Rattle.std.proofs.Common.{ap, sym, ◌∙◌}
 use Rattle.std.specs.List.{list_any}
 use Rattle.evaluation.specs.declared.note.Note.TheVariants.{Sum}
-use Rattle.evaluation.specs.Short.{note_of}
 use Rattle.instance_records.specs.declared.readings.Below.{out-Below}
 use Rattle.instance_records.specs.declared.readings.Node.{out-Node}
 use Rattle.instance_records.specs.Readings.{is_a_sum}

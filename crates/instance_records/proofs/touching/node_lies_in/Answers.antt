@@ -1,7 +1,6 @@
-use Rattle.std.proofs.Common.{ap, sym, ◌∙◌, map, true}
+use Rattle.std.proofs.Common.{ap, sym, ◌∙◌, map}
 use Rattle.meaning.specs.Every.{every}
 use Rattle.instance_records.specs.declared.readings.Below.{out-Below}
-use Rattle.instance_records.specs.declared.readings.Node.{out-Node}
 use Rattle.evaluation.specs.Short.{note_of}
 use Rattle.record_theory.proofs.Members.{every_weaker}
 use Rattle.instance_records.specs.Spans.{is_covered_by, hold_rows}

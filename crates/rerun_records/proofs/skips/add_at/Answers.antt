@@ -1,9 +1,9 @@
-use Rattle.std.proofs.Common.{◌≡◌, ◌+◌, ◌-◌, ◌∷◌, [], refl, sym, subst, arith}
+use Rattle.std.proofs.Common.{◌+◌, ◌-◌, [], refl, sym, subst, arith}
 use Rattle.meaning.specs.Every.{every}
 use Rattle.instance_records.specs.Spans.{is_covered_by}
 use Rattle.rerun_records.specs.Skips.{PassBut, Reaches}
 use Rattle.rerun_records.proofs.Covering.{stretch_passes}
-use Rattle.rerun_records.proofs.Passing.{with_done, more_pass, added_pass}
+use Rattle.rerun_records.proofs.Passing.{with_done, added_pass}
 use Rattle.rerun_records.proofs.skips.add_at.Goals as goal
 
 pub returns-clause-held : goal.returns-clause-held
