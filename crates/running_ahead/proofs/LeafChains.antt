@@ -10,9 +10,8 @@ use Rattle.positions.specs.Activations.{waiting}
 use Rattle.positions.specs.Code.{PlainLoop, loop_at}
 use Rattle.positions.specs.Layers.{PlainLayer}
 use Rattle.positions.specs.Setting.{Setting}
-use Rattle.positions.specs.Strands.{PlainStrand}
 use Rattle.positions.specs.Tallies.{PlainTally}
-use Rattle.positions.specs.Advance.{answer_for, rest_of}
+use Rattle.positions.specs.Advance.{rest_of}
 use Rattle.own_statements.specs.Fills.{IsCounted}
 use Rattle.running_ahead.specs.Stepped.{IsStepped}
 use Rattle.running_ahead.specs.Leaves.{PlainLeaf, IsLeaf, Gathered, gathered, IsRecorded, AreRecorded, more, arguments_then}
@@ -27,7 +26,7 @@ module _ (setting : Setting) (l : Loop) (j : PlainLoop) where
   leaf_of left i = record { callee = j.callee; size = slots_of setting.codes j.callee; left = left - 1; number = l.low +ℤ pos i }
 
   module _ (p : ℕ) (slots : List Slot) (left : ℕ) (found : j ≡ loop_at setting.codes p l) (memo : memo_of setting.codes j.callee ≡ true) (deep : (left == 0) ≡ false)
-      (counted : IsCounted slots j.variable (map expression j.arguments)) (unknown : (z : PlainStrand) → answer_for setting z ≡ None) where
+      (counted : IsCounted slots j.variable (map expression j.arguments)) where
     is_recorded : (i : ℕ) (v w : PlainLayer) (t u : PlainTally) (xs : List ℤ) → IsLeaf setting (leaf_of left i) v t w u
         → IsRecorded setting l p slots left i (gathered_by v t xs) (gathered_by w u ((l.low +ℤ pos i) ∷ []))
     is_recorded i v w t u xs leaf a h procedure same levels there first some s amid =
@@ -37,7 +36,7 @@ module _ (setting : Setting) (l : Loop) (j : PlainLoop) where
         let leaf_here : IsLeaf setting (leaf_of a.left h.first) v t w u =
         subst (λ (k : ℕ). IsLeaf setting (leaf_of k h.first) v t w u) (sym levels) (subst (λ (k : ℕ). IsLeaf setting (leaf_of left k) v t w u) (sym first) leaf) in
         subst (λ (k : ℕ). IsStepped setting (gathered Running a (gathered_by v t xs) s) (gathered Running (waiting false None (Turns l (rest_of h)) a) (gathered_by w u ((l.low +ℤ pos k) ∷ [])) s)) first
-        (leaf_steps setting l h j a v t xs s there some found_here memo deep_here counted_here unknown amid w u leaf_here)
+        (leaf_steps setting l h j a v t xs s there some found_here memo deep_here counted_here amid w u leaf_here)
 
     -- one more behind so many
     pub one_more : (h : Share) (xs : List ℤ) (x : Gathered) (n : ℕ) (v w : PlainLayer) (t u : PlainTally) → AreRecorded setting l p slots left h.first x n (gathered_by v t (arguments_then n l h xs))

@@ -58,15 +58,15 @@ module _ (setting : Setting) (site : Loop) (h : Share) (j : PlainLoop) (a : Plai
   called = pushed (child_of j.callee slots_here argued) false None (Turns site (rest_of h)) Entering argued
 
   module _ (there : a.work ≡ Turns site h) (more : (h.count == 0) ≡ false) (found : j ≡ loop_at setting.codes a.procedure site) (memo : memo_of setting.codes j.callee ≡ true) (deep : (a.left == 0) ≡ false)
-      (counted : IsCounted a.slots j.variable (map expression j.arguments)) (none : (z : PlainStrand) → answer_for setting z ≡ None) where
-    begins : opened setting called ≡ advanced setting true before
-    begins =
+      (counted : IsCounted a.slots j.variable (map expression j.arguments)) where
+    begins : answer_for setting called ≡ None → opened setting called ≡ advanced setting true before
+    begins unknown =
         let w = Turns site (rest_of h) in
         let es = map expression j.arguments in
         let slots = turn_slots j site h before in
         let next = nested_memo setting true j.number Call None w j.callee in
         let taken = number_taken setting.tables es j.variable a.slots number_here (number_here ∷ []) before (counted.1, counted.0) refl in
-        ap (λ (r : Option PlainRecord). recalled setting true r called) (sym (none called))
+        ap (λ (r : Option PlainRecord). recalled setting true r called) (sym unknown)
         ∙ nested_call setting true j.number Call None w j.callee slots_here argued (child_of j.callee slots_here argued) refl deep memo refl
         ∙ evaluated_some (λ (vs : List ℤ). vs) j.number (values_at setting.tables slots es) next before before (number_here ∷ []) taken
         ∙ called_memo setting true j.number Call None w w j.callee es slots before memo refl
@@ -107,16 +107,13 @@ module _ (setting : Setting) (site : Loop) (h : Share) (j : PlainLoop) (a : Plai
 
       pub leaf_steps : IsStepped setting before (with_turns on_turn m u (number_here ∷ []) s)
       leaf_steps =
-          let begun : IsStepped setting before (opened setting called) = on before (opened setting called) here begins in
+          let begun : IsStepped setting before (opened setting called) = on before (opened setting called) here (begins leaf.unknown) in
           let run : IsStepped setting (opened setting called) returned = steps_of setting (opened setting called) returned (leaf.came under (λ _. entry)) in
           let ended : IsStepped setting before returned = steps_join setting before (opened setting called) returned begun run in
           let over : IsStepped setting before after = on (closed setting leaf.value returned) after (on returned (closed setting leaf.value returned) ended closes) leaves in
           subst (λ (z : PlainStrand). IsStepped setting before z) is_after over
 
 -- where there are no records none answers
-no_record : (setting : Setting) (d f : ℕ) (xs : List ℤ) → setting.records ≡ [] → record_for setting d f xs ≡ None
+pub no_record : (setting : Setting) (d f : ℕ) (xs : List ℤ) → setting.records ≡ [] → record_for setting d f xs ≡ None
 no_record setting zero f xs e = refl
 no_record setting (suc d) f xs e = ap (λ rs. valid_at setting.program.revisions setting.tables (suc d) rs f xs) e
-
-pub none_answers : (setting : Setting) → setting.records ≡ [] → (s : PlainStrand) → answer_for setting s ≡ None
-none_answers setting e s = no_record setting (depth_limit - s.top.left) s.top.procedure s.arguments e

@@ -13,7 +13,7 @@ use Rattle.positions.specs.Activations.{PlainActivation, made, first_of, waiting
 use Rattle.positions.specs.Layers.{PlainLayer, blank, covered, entering}
 use Rattle.positions.specs.Strands.{PlainStrand, entry_by}
 use Rattle.positions.specs.Tallies.{PlainOpened, PlainTally, opening, closing}
-use Rattle.positions.specs.Advance.{rest_of}
+use Rattle.positions.specs.Advance.{record_for, rest_of}
 use Rattle.own_statements.specs.Paths.{ComesTo}
 use Rattle.running_ahead.specs.declared.leaf.Leaf.{Leaf}
 use Rattle.running_ahead.specs.Stepped.{IsStepped}
@@ -32,8 +32,9 @@ plain_leaf f = record { callee = f.callee; size = f.size; left = f.left; number 
 abbrev pub opened_by : PlainLeaf → PlainOpened
 opened_by f = record { procedure = f.callee; arguments = f.number ∷ []; left = f.left; depth = 0 }
 
--- it does its statements in a layer of its own, which becomes a record and goes onto the loop's layer
+-- no record answers it, and it does its statements in a layer of its own, which becomes a record and goes onto the loop's layer
 pub record IsLeaf (setting : Setting) (f : PlainLeaf) (l : PlainLayer) (t : PlainTally) (m : PlainLayer) (u : PlainTally) : Type 0 where
+  pub unknown : record_for setting (depth_limit - f.left) f.callee (f.number ∷ []) ≡ None
   pub child : PlainActivation
   pub own : PlainLayer
   pub value : ℤ

@@ -1,5 +1,5 @@
 //! One iteration of a loop over a memo procedure, done in a layer of its own that becomes a record at once.
-ghost use Rattle.std.specs.Prelude.{◌≡◌, ◌∷◌, ◌-◌, [], true, false, Some, All, IfOk, IfSome, OnErr, OnOk, length};
+ghost use Rattle.std.specs.Prelude.{◌≡◌, ◌∷◌, ◌-◌, [], true, false, Some, None, All, IfOk, IfSome, OnErr, OnOk, length};
 ghost use Rattle.monoid_laws.specs.Kinds.{IsMonoid};
 ghost use Rattle.meaning.specs.Elision.{depth_limit};
 ghost use Rattle.record_theory.specs.Named.{HaveValues};
@@ -8,6 +8,7 @@ ghost use Rattle.positions.specs.declared.work.Work.TheVariants.{Block};
 ghost use Rattle.positions.specs.Activations.{made, first_of};
 ghost use Rattle.positions.specs.Layers.{blank, covered, entering};
 ghost use Rattle.positions.specs.Tallies.{opening, closing};
+ghost use Rattle.positions.specs.Advance.{record_for};
 ghost use Rattle.activations.specs.Given.{lent};
 ghost use Rattle.own_statements.specs.Paths.{ComesTo};
 ghost use Rattle.own_statements.specs.Runs.{IsBody};
@@ -15,7 +16,7 @@ ghost use Rattle.running_ahead.specs.Leaves.{IsLeaf, IsRefusedLeaf, opened_by, p
 
 use activations::activation::Activation;
 use activations::setting::Setting;
-use layers::layer::Layer;
+use layers::layer::{DEEPEST, Layer};
 use layers::recording::Opened;
 use layers::tally::Tally;
 use linked_program::checked::Checked;
@@ -35,6 +36,33 @@ pub(crate) struct Leaf<'a> {
     pub(crate) left: u32,
     pub(crate) number: i64,
     pub(crate) body: &'a [Instruction],
+}
+
+/// Whether a record answers an iteration.
+#[inline(always)]
+#[tactic(auto, using(crate::proofs::LeafSteps::no_record))]
+pub(crate) fn is_answered(setting: Setting<'_>, leaf: Leaf<'_>) -> bool
+    ensures unknown { result ≡ false
+        → record_for (lent setting.entry) (depth_limit - leaf.entry.left) leaf.entry.callee (leaf.entry.number ∷ []) ≡ None }
+{
+    let depth = DEEPEST.saturating_sub(leaf.left);
+    if depth == 0 {
+        return false;
+    }
+    // In a first run there are none.
+    if setting.records.is_empty() {
+        return false;
+    }
+    match setting.records.valid(
+        leaf.callee,
+        &[leaf.number],
+        depth,
+        setting.tables,
+        setting.program,
+    ) {
+        Some(_) => true,
+        None => false,
+    }
 }
 
 /// The statements of an iteration over its own layer; the value that it gives back, if it does them all by itself.
@@ -105,7 +133,7 @@ fn close<V: View>(
     }
 }
 
-/// An iteration in a layer of that kit, which is given back. Whether it was done; where it wasn't, nothing has changed. Where memory is
+/// An iteration that no record answers, in a layer of that kit, which is given back. Whether it was done; where it wasn't, nothing has changed. Where memory is
 /// refused when the layer becomes a record, that stays above the loop's, which has other values.
 #[inline(always)]
 pub(crate) fn record_leaf<V: View>(
@@ -116,6 +144,7 @@ pub(crate) fn record_leaf<V: View>(
     kit: Kit<V>,
 ) -> Result<(bool, Kit<V>), AllocError>
     requires body { IsBody setting.program.now.codes leaf.callee leaf.body.now }
+    requires unknown { record_for (lent setting) (depth_limit - leaf.left) leaf.callee (leaf.number ∷ []) ≡ None }
     requires kit { kit ≡ setting.program.now.kinds }
     requires kinds { machine.old.layer.kinds ≡ setting.program.now.kinds }
     requires monoids { All IsMonoid setting.program.now.kinds }

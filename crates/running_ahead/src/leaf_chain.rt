@@ -9,7 +9,7 @@ ghost use Rattle.activations.specs.Given.{lent, loop_of};
 ghost use Rattle.own_statements.specs.Fills.{IsCounted};
 ghost use Rattle.running_ahead.specs.Leaves.{AreRecorded, IsRefusedLeaf, arguments_then, gathered_of};
 
-use crate::leaf::{Leaf, record_leaf};
+use crate::leaf::{Leaf, is_answered, record_leaf};
 use activations::code::{LoopCode, instructions};
 use activations::setting::Setting;
 use activations::shares::{behind, number_of};
@@ -26,9 +26,9 @@ pub(crate) struct Stretch {
     pub(crate) most: u32,
 }
 
-/// Records a stretch of iterations one after another, each in a layer of that kit, as far as they do their statements by themselves; how
-/// many were recorded, and the kit. The loop's instance doesn't learn of them. Where memory is refused when a layer becomes a record, that
-/// stays above the loop's, of which nothing is claimed but its kinds.
+/// Records a stretch of iterations one after another, each in a layer of that kit, as far as no records answer them and they do their
+/// statements by themselves; how many were recorded, and the kit. The loop's instance doesn't learn of them. Where memory is refused when a
+/// layer becomes a record, that stays above the loop's, of which nothing is claimed but its kinds.
 pub(crate) fn record_chain<V: View>(
     machine: &mut Machine<V>,
     alloc: Global,
@@ -43,7 +43,6 @@ pub(crate) fn record_chain<V: View>(
     requires memo { memo_of setting.program.now.codes code.callee ≡ true }
     requires deep { (machine.old.top.left == 0) ≡ false }
     requires counted { IsCounted machine.old.top.slots code.variable (map plain code.arguments.now) }
-    requires no_records { setting.records.now ≡ [] }
     requires kit { kit ≡ setting.program.now.kinds }
     requires kinds { machine.old.layer.kinds ≡ setting.program.now.kinds }
     requires monoids { All IsMonoid setting.program.now.kinds }
@@ -74,6 +73,9 @@ pub(crate) fn record_chain<V: View>(
             number: number_of(stretch.site, behind(stretch.site, stretch.share, done)),
             body,
         };
+        if is_answered(setting, leaf) {
+            return Ok((done, kit));
+        }
         match record_leaf(machine, alloc, setting, leaf, kit) {
             Ok((true, back)) => kit = back,
             Ok((false, back)) => return Ok((done, back)),

@@ -10,7 +10,7 @@ mod halves;
 mod leaf;
 mod leaf_chain;
 mod plain;
-mod ready;
+pub mod ready;
 mod recorded_half;
 pub mod recording;
 pub mod spawning;

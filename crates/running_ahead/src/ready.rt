@@ -9,20 +9,21 @@ ghost use Rattle.running_ahead.specs.Leaves.{arguments_then};
 use crate::called_halves::{MOST, has_room};
 use crate::plain::are_recorded;
 use activations::activation::Activation;
-use activations::code::LoopCode;
+use activations::code::{LoopCode, loop_code};
 use activations::shares::{behind, number_of};
 use activations::spares::Spares;
 use evaluation::slot::Slot;
 use linked_program::checked::Checked;
 use own_statements::filling::is_counted;
+use positions::phase::Phase;
 use positions::work::{Loop, Share, Work};
 use small_steps::machine::Machine;
 use std::alloc::{AllocError, Global};
 use std::mem;
 use view_pool::View;
 
-/// Whether so many iterations of the topmost instance's half may be recorded in one go, where there are no records: they are few, of a
-/// procedure that is marked memo and does its statements by itself, and there is room for them.
+/// Whether so many iterations of the topmost instance's half may be recorded in one go: they are few, of a procedure that is marked memo and
+/// does its statements by itself, and there is room for them.
 pub(crate) fn may_record<V: View>(
     machine: &Machine<V>,
     program: &Checked,
@@ -40,6 +41,22 @@ pub(crate) fn may_record<V: View>(
         return false;
     }
     is_counted(&machine.top, code.variable, code.arguments) && has_room(machine)
+}
+
+/// Whether iterations of the topmost instance's half, and of the halves in it, may be recorded in one go, where they are few. Nothing is claimed of
+/// it: where they can't be recorded, they are done one by one.
+pub fn records_halves<V: View>(machine: &Machine<V>, program: &Checked) -> bool {
+    match machine.phase {
+        Phase::Running => match machine.top.work() {
+            Work::Halves(site, _, _) => {
+                let code = loop_code(program, machine.top.procedure(), site);
+                are_recorded(program, code.callee)
+                    && is_counted(&machine.top, code.variable, code.arguments)
+            }
+            _ => false,
+        },
+        _ => false,
+    }
 }
 
 /// Has room for an argument, and an instance ready that has so many slots; not where memory is refused.

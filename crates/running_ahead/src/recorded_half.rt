@@ -39,8 +39,8 @@ pub(crate) struct Half {
     pub(crate) share: Share,
 }
 
-/// Where the topmost instance has a half of few iterations left, of a memo procedure, there are no records yet and spawned children are
-/// called: does its iterations in one go, as many as do all of their statements by themselves.
+/// Where the topmost instance has a half of few iterations left, of a memo procedure, and spawned children are called: does its iterations in
+/// one go, as many as no records answer and as do all of their statements by themselves. Whether it did anything.
 #[inline(never)]
 #[tactic(auto, using(crate::proofs::Kept::recorded_here, crate::proofs::Kept::kits_same))]
 pub(crate) fn record_half<V: View, S: Spawning, K: KitSource<Kit<V>>>(
@@ -50,7 +50,7 @@ pub(crate) fn record_half<V: View, S: Spawning, K: KitSource<Kit<V>>>(
     half: Half,
     spawning: &mut S,
     kits: &mut K,
-) -> Result<(), AllocError>
+) -> Result<bool, AllocError>
     requires fits { ShareFits half.site half.share }
     requires there { machine.old.top.work ≡ Work.Halves half.site half.halvings half.share }
     requires running { machine.old.phase ≡ Phase.Running }
@@ -61,9 +61,6 @@ pub(crate) fn record_half<V: View, S: Spawning, K: KitSource<Kit<V>>>(
     ensures kits { KeepsAllKits K.KitSource setting.entry.program.now.kinds kits.old kits.new machine.old machine.new }
     ensures without_kit { GivesNone K.gives kits.old → machine.new ≡ machine.old }
 {
-    if !setting.records.is_empty() {
-        return Ok(());
-    }
     let code = loop_code(setting.program, machine.top.procedure(), half.site);
     let part = Part {
         site: half.site,
@@ -72,13 +69,13 @@ pub(crate) fn record_half<V: View, S: Spawning, K: KitSource<Kit<V>>>(
         grain: code.grain,
     };
     let Some(levels) = levels_of(machine, setting, code, part) else {
-        return Ok(());
+        return Ok(false);
     };
     if !spawning.is_called() {
-        return Ok(());
+        return Ok(false);
     }
     let Some(copies) = make_parts(machine, alloc, setting.program.slots(code.callee), levels) else {
-        return Ok(());
+        return Ok(false);
     };
     record_part(machine, alloc, setting, code, Ready { part, copies }, kits)
 }
@@ -143,7 +140,7 @@ fn record_part<V: View, K: KitSource<Kit<V>>>(
     code: LoopCode<'_>,
     ready: Ready,
     kits: &mut K,
-) -> Result<(), AllocError>
+) -> Result<bool, AllocError>
     requires fits { ShareFits ready.part.site ready.part.share }
     requires there { machine.old.top.work ≡ Work.Halves ready.part.site ready.part.halvings ready.part.share }
     requires running { machine.old.phase ≡ Phase.Running }
@@ -160,7 +157,6 @@ fn record_part<V: View, K: KitSource<Kit<V>>>(
     requires reached { ready.part.share.count ≤ reach (length ready.copies.items) ready.part.grain }
     requires levels { length ready.copies.items ≤ 6 }
     requires copies { All (λ v. v.items ≡ machine.old.top.slots) ready.copies.items }
-    requires no_records { setting.records.now ≡ [] }
     requires supplied { IsSuppliedBy K.KitSource setting kits.old machine.old }
     ensures ahead { OnOk result (IsRecordedAhead (lent setting.entry) machine.old machine.new) }
     ensures whole { IsWhole machine.old → IsWhole machine.new }
@@ -169,7 +165,7 @@ fn record_part<V: View, K: KitSource<Kit<V>>>(
     ensures without_kit { GivesNone K.gives kits.old → machine.new ≡ machine.old }
 {
     let Some(kit) = kits.take() else {
-        return Ok(());
+        return Ok(false);
     };
     let stretch = Stretch {
         site: ready.part.site,
@@ -189,7 +185,7 @@ fn settle_half<V: View>(
     alloc: Global,
     ready: Ready,
     done: u32,
-) -> Result<(), AllocError>
+) -> Result<bool, AllocError>
     requires fits { ShareFits ready.part.site ready.part.share }
     requires there { machine.old.top.work ≡ Work.Halves ready.part.site ready.part.halvings ready.part.share }
     requires running { machine.old.phase ≡ Phase.Running }
@@ -232,9 +228,9 @@ fn settle_half<V: View>(
         done,
     ) {
         machine.phase = Phase::Leaving(0);
-        return Ok(());
+        return Ok(true);
     }
-    Ok(())
+    Ok(true)
 }
 
 /// After so many iterations of a half, which are recorded: whether it is over. Else the part of it that has the next one is put on top.

@@ -28,10 +28,10 @@ use view_pool::{Kit, KitSource, View};
 // How many iterations are done in one go.
 const ITERATIONS: u32 = 1024;
 
-/// Where the topmost instance is a loop's over a memo procedure, and there are no records yet: does its next iterations in one go, as many
-/// as do all of their statements by themselves, each in a layer of its own that becomes a record; those of a half only where spawned
-/// children are called. A kit is taken for that, and given back. Where memory is refused when a layer becomes a record, the strand can't go
-/// on.
+/// Where the topmost instance is a loop's over a memo procedure: does its next iterations in one go, as many as no records answer and as do
+/// all of their statements by themselves, each in a layer of its own that becomes a record; those of a half only where spawned children are
+/// called. Whether it did anything. A kit is taken for that, and given back. Where memory is refused when a layer becomes a record, the
+/// strand can't go on.
 #[inline(always)]
 #[tactic(auto, using(crate::proofs::Kept::recorded_here, crate::proofs::Kept::kits_same))]
 pub fn record_ahead<V: View, S: Spawning, K: KitSource<Kit<V>>>(
@@ -40,7 +40,7 @@ pub fn record_ahead<V: View, S: Spawning, K: KitSource<Kit<V>>>(
     setting: Setting<'_>,
     spawning: &mut S,
     kits: &mut K,
-) -> Result<(), AllocError>
+) -> Result<bool, AllocError>
     requires supplied { IsSuppliedBy K.KitSource setting kits.old machine.old }
     ensures ahead { OnOk result (IsRecordedAhead (lent setting.entry) machine.old machine.new) }
     ensures whole { IsWhole machine.old → IsWhole machine.new }
@@ -59,9 +59,9 @@ pub fn record_ahead<V: View, S: Spawning, K: KitSource<Kit<V>>>(
                 };
                 record_half(machine, alloc, setting, half, spawning, kits)
             }
-            _ => Ok(()),
+            _ => Ok(false),
         },
-        _ => Ok(()),
+        _ => Ok(false),
     }
 }
 
@@ -75,7 +75,7 @@ fn record_turns<V: View, K: KitSource<Kit<V>>>(
     site: Loop,
     share: Share,
     kits: &mut K,
-) -> Result<(), AllocError>
+) -> Result<bool, AllocError>
     requires fits { ShareFits site share }
     requires there { machine.old.top.work ≡ Work.Turns site share }
     requires running { machine.old.phase ≡ Phase.Running }
@@ -86,18 +86,18 @@ fn record_turns<V: View, K: KitSource<Kit<V>>>(
     ensures kits { KeepsAllKits K.KitSource setting.entry.program.now.kinds kits.old kits.new machine.old machine.new }
     ensures without_kit { GivesNone K.gives kits.old → machine.new ≡ machine.old }
 {
-    if !setting.records.is_empty() || share.count == 0 {
-        return Ok(());
+    if share.count == 0 {
+        return Ok(false);
     }
     let code = loop_code(setting.program, machine.top.procedure(), site);
     if !are_recorded(setting.program, code.callee) {
-        return Ok(());
+        return Ok(false);
     }
     let Some(stretch) = stretch_of(machine, code, site, share) else {
-        return Ok(());
+        return Ok(false);
     };
     if !make_ready(machine, alloc, setting.program.slots(code.callee)) {
-        return Ok(());
+        return Ok(false);
     }
     record_stretch(machine, alloc, setting, code, stretch, kits)
 }
@@ -152,7 +152,7 @@ fn record_stretch<V: View, K: KitSource<Kit<V>>>(
     code: LoopCode<'_>,
     stretch: Stretch,
     kits: &mut K,
-) -> Result<(), AllocError>
+) -> Result<bool, AllocError>
     requires fits { ShareFits stretch.site stretch.share }
     requires there { machine.old.top.work ≡ Work.Turns stretch.site stretch.share }
     requires some { stretch.most ≤ stretch.share.count }
@@ -162,7 +162,6 @@ fn record_stretch<V: View, K: KitSource<Kit<V>>>(
     requires memo { memo_of setting.program.now.codes code.callee ≡ true }
     requires deep { (machine.old.top.left == 0) ≡ false }
     requires counted { IsCounted machine.old.top.slots code.variable (map plain code.arguments.now) }
-    requires no_records { setting.records.now ≡ [] }
     requires amid { IsAmid machine.old }
     requires supplied { IsSuppliedBy K.KitSource setting kits.old machine.old }
     ensures ahead { OnOk result (IsRecordedAhead (lent setting.entry) machine.old machine.new) }
@@ -172,16 +171,20 @@ fn record_stretch<V: View, K: KitSource<Kit<V>>>(
     ensures without_kit { GivesNone K.gives kits.old → machine.new ≡ machine.old }
 {
     let Some(kit) = kits.take() else {
-        return Ok(());
+        return Ok(false);
     };
     let (done, kit) = record_chain(machine, alloc, setting, code, stretch, kit)?;
     send_home(kits, kit);
     settle(machine, stretch, done)
 }
 
-/// The loop's instance has called so many iterations.
+/// The loop's instance has called so many iterations; whether these are some.
 #[inline(always)]
-fn settle<V: View>(machine: &mut Machine<V>, stretch: Stretch, done: u32) -> Result<(), AllocError>
+fn settle<V: View>(
+    machine: &mut Machine<V>,
+    stretch: Stretch,
+    done: u32,
+) -> Result<bool, AllocError>
     requires fits { ShareFits stretch.site stretch.share }
     requires there { machine.old.top.work ≡ Work.Turns stretch.site stretch.share }
     requires some { done ≤ stretch.share.count }
@@ -194,5 +197,5 @@ fn settle<V: View>(machine: &mut Machine<V>, stretch: Stretch, done: u32) -> Res
 {
     put_last(&mut machine.arguments, stretch.site, stretch.share, done)?;
     machine.top.turns(stretch.site, stretch.share, done);
-    Ok(())
+    Ok(done > 0)
 }

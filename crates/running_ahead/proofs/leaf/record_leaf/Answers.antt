@@ -33,6 +33,7 @@ returns-in-Ok-close-clause-leaf g c done =
     subst (λ (z : PlainLayer). ComesTo S true (made f.callee (slots_for f.size (f.number ∷ [])) (Block (first_of 0)) f.left) (entering f.callee (depth_limit - f.left) z) (Some v) child own) first c.in-Some.ensures.came in
     subst (λ (s : PlainStrand). IsLeaf S f s.layer s.tally c.close.new.layer c.close.new.tally) c.machine.view_is
     (record {
+      unknown = c.requires.unknown;
       child = child;
       own = own;
       value = v;

@@ -6,7 +6,6 @@ use Rattle.positions.specs.Tallies.{PlainTally}
 use Rattle.activations.specs.Given.{lent, loop_of}
 use Rattle.activations.specs.Turned.{behind}
 use Rattle.running_ahead.specs.Leaves.{IsLeaf, none, gathered_of}
-use Rattle.running_ahead.proofs.LeafSteps.{none_answers}
 use Rattle.running_ahead.proofs.LeafChains.{leaf_of, one_more}
 use Rattle.running_ahead.proofs.leaf_chain.record_chain.Goals as goal
 
@@ -40,7 +39,7 @@ loop-done-preserved g c =
     (subst (λ (k : ℕ). IsLeaf S (record { callee = j.callee; size = slots_of S.codes j.callee; left = k - 1; number = n }) before.layer before.tally after.layer after.tally) left
     (subst (λ (k : ℕ). IsLeaf S (record { callee = j.callee; size = k; left = c.left-left.result - 1; number = n }) before.layer before.tally after.layer after.tally) c.slots-size.ensures.slots given)) in
     record {
-      records = one_more S x.site j m.top.procedure m.top.slots m.top.left c.requires.found c.requires.memo c.requires.deep c.requires.counted (none_answers S c.requires.no_records)
+      records = one_more S x.site j m.top.procedure m.top.slots m.top.left c.requires.found c.requires.memo c.requires.deep c.requires.counted
           x.share m.arguments (gathered_of m m.arguments) d before.layer after.layer before.tally after.tally c.loop-done.invariant.records leaf;
       others = c.in-Ok-true-default.ensures.others is_done ∙ ap (λ (z : PlainStrand). record z { layer = after.layer; tally = after.tally }) c.loop-done.invariant.others;
       opened = ap (λ (t : PlainTally). t.opened) leaf.tally ∙ c.loop-done.invariant.opened;
