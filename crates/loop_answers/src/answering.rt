@@ -30,7 +30,8 @@ pub(crate) const HALVINGS: u32 = meaning::HALVINGS;
 /// Where the topmost instance is a loop's over a memo procedure, has records answer iterations: all those of a half that is halved
 /// again, where they can, else the first ones, and it goes down to the next; or the first ones of those that are left one by one. At a
 /// spawn it has a record answer the child. Whether any were answered. It is said whether a spawned child is called, for the halves that
-/// aren't answered. Where memory is refused the strand can't go on.
+/// aren't answered, and whether those of few iterations, of which the first one isn't answered, are left as they are. Where memory is
+/// refused the strand can't go on.
 #[inline(always)]
 #[tactic(auto, using(crate::proofs::Replays::answered_same))]
 pub fn answer_ahead<V: View>(
@@ -38,6 +39,7 @@ pub fn answer_ahead<V: View>(
     alloc: Global,
     setting: Setting<'_>,
     calls: bool,
+    leaves: bool,
 ) -> Result<bool, AllocError>
     requires layered { machine.old.phase ≡ Phase.Running → length machine.old.tally.opened ≡ length machine.old.lower }
     requires kinds { machine.old.layer.kinds ≡ setting.program.now.kinds }
@@ -51,7 +53,7 @@ pub fn answer_ahead<V: View>(
     }
     match machine.phase {
         Phase::Running => match machine.top.work() {
-            Work::Halves(_, _, _) => answer_halves(machine, alloc, setting, calls),
+            Work::Halves(_, _, _) => answer_halves(machine, alloc, setting, calls, leaves),
             Work::Turns(site, share) => answer_turns(machine, alloc, setting, site, share),
             _ => Ok(false),
         },
@@ -85,6 +87,7 @@ fn answer_halves<V: View>(
     alloc: Global,
     setting: Setting<'_>,
     calls: bool,
+    leaves: bool,
 ) -> Result<bool, AllocError>
     requires layered { machine.old.phase ≡ Phase.Running → length machine.old.tally.opened ≡ length machine.old.lower }
     requires running { machine.old.phase ≡ Phase.Running }
@@ -95,7 +98,7 @@ fn answer_halves<V: View>(
     ensures refused { OnErr result (IsRefusedAhead (lent setting.entry) machine.old machine.new) }
 {
     for _ in 0..HALVINGS {
-        match answer_next(machine, alloc, setting, calls) {
+        match answer_next(machine, alloc, setting, calls, leaves) {
             Ok(true) => {}
             Ok(false) => return Ok(true),
             Err(error) => return Err(error),
@@ -112,6 +115,7 @@ fn answer_next<V: View>(
     alloc: Global,
     setting: Setting<'_>,
     calls: bool,
+    leaves: bool,
 ) -> Result<bool, AllocError>
     requires layered { machine.old.phase ≡ Phase.Running → length machine.old.tally.opened ≡ length machine.old.lower }
     requires kinds { machine.old.layer.kinds ≡ setting.program.now.kinds }
@@ -124,7 +128,7 @@ fn answer_next<V: View>(
         Phase::Running => match machine.top.work() {
             Work::Halves(site, halvings, share) => {
                 let turns = Turns { site, share };
-                answer_half(machine, alloc, setting, turns, halvings, calls)
+                answer_half(machine, alloc, setting, turns, halvings, calls, leaves)
             }
             _ => Ok(false),
         },
@@ -142,6 +146,7 @@ fn answer_half<V: View>(
     turns: Turns,
     halvings: u32,
     calls: bool,
+    leaves: bool,
 ) -> Result<bool, AllocError>
     requires fits { ShareFits turns.site turns.share }
     requires there { machine.old.top.work ≡ Work.Halves turns.site halvings turns.share }
@@ -180,6 +185,7 @@ fn answer_half<V: View>(
         answered: found.count,
         is_stale: found.ends_at_stale(),
         calls,
+        leaves,
     };
     descend(machine, alloc, setting, &found.batches, turns, descent)
 }

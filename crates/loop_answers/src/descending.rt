@@ -21,14 +21,19 @@ use small_steps::machine::Machine;
 use std::alloc::{AllocError, Global};
 use view_pool::View;
 
+/// Halves of so few iterations are left as they are, where that is asked for.
+const FEW: u32 = 64;
+
 /// A half may be halved so many times, and so many of its iterations are answered; whether it is known that the one behind these
-/// isn't, and whether spawned children are called.
+/// isn't, whether spawned children are called, and whether a half of few iterations, of which the first one isn't answered, is left as
+/// it is.
 #[derive(Clone, Copy)]
 pub(crate) struct Descent {
     pub(crate) halvings: u32,
     pub(crate) answered: u32,
     pub(crate) is_stale: bool,
     pub(crate) calls: bool,
+    pub(crate) leaves: bool,
 }
 
 /// Half of a half's iterations; so many batches answer those in front of them.
@@ -105,6 +110,11 @@ fn behind<'b, 'a>(found: &'b [Batch<'a>], count: usize) -> &'b [Batch<'a>]
     &found[count..]
 }
 
+/// Whether a half of those iterations is left as it is.
+fn is_left(descent: Descent, share: Share) -> bool {
+    descent.leaves && descent.is_stale && descent.answered == 0 && share.count <= FEW
+}
+
 /// Goes down to half of a half's iterations, or where these are done one by one, to the first of them.
 #[tactic(auto, using(crate::proofs::Replays::answered_same))]
 fn go_down<V: View>(
@@ -140,7 +150,7 @@ fn go_down<V: View>(
             count,
         ),
         None => {
-            if !descent.calls {
+            if !descent.calls || is_left(descent, turns.share) {
                 return Ok(None);
             }
             Ok(go_left(machine, alloc, setting, found, turns, descent.halvings))
