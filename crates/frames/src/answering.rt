@@ -14,6 +14,8 @@ use input_tables::Tables;
 use linked_program::checked::Checked;
 use loop_answers::answering::answer_ahead;
 use rerun_records::records::Records;
+use running_ahead::ready::records_halves;
+use small_steps::machine::Machine;
 use std::alloc::{AllocError, Global};
 use view_pool::View;
 
@@ -21,7 +23,8 @@ impl<V: View> Strand<V> {
     /// Where the topmost instance is a loop's over a memo procedure, has records answer iterations: all those of a half that is halved
     /// again, where they can, else the first ones, and it goes down to the next; or the first ones of those that are left one by one. At a
     /// spawn it has a record answer the child. Whether any were answered. It is said whether a spawned child is called, for the halves that
-    /// aren't answered. Where memory is refused the strand can't go on.
+    /// aren't answered; where one of few iterations may be recorded in one go, and the first one isn't answered, that is left as it is. Where
+    /// memory is refused the strand can't go on.
     #[inline(always)]
     pub fn answer_ahead(
         &mut self,
@@ -50,6 +53,17 @@ impl<V: View> Strand<V> {
             tables,
             records,
         };
-        answer_ahead(&mut self.machine, alloc, setting, calls)
+        let leaves = leaves_halves(&self.machine, setting, calls);
+        answer_ahead(&mut self.machine, alloc, setting, calls, leaves)
     }
+}
+
+/// Whether halves of few iterations, of which the first one isn't answered, are left as they are, since they may be recorded in one go:
+/// only where spawned children are called.
+#[inline(always)]
+fn leaves_halves<V: View>(machine: &Machine<V>, setting: Setting<'_>, calls: bool) -> bool {
+    if !calls || setting.records.is_empty() {
+        return false;
+    }
+    records_halves(machine, setting.program)
 }
