@@ -176,9 +176,9 @@ impl<J: Run, V: View> RightStrand<J, V> {
         }
     }
 
-    /// Where a loop over a memo procedure is next, and there are no records yet: does its next iterations in one go, as many as do all of
-    /// their statements by themselves, each in a layer of its own that becomes a record; those of a half only where spawned children are
-    /// called. A kit is taken for that, and given back. Where memory is refused the strand has failed.
+    /// Where a loop over a memo procedure is next: does its next iterations in one go, as many as no records answer and as do all of their
+    /// statements by themselves, each in a layer of its own that becomes a record; those of a half only where spawned children are called.
+    /// Whether it did anything. A kit is taken for that, and given back. Where memory is refused the strand has failed.
     #[inline(always)]
     pub fn record_ahead<S: Spawning, K: KitSource<Kit<V>>>(
         &mut self,
@@ -186,7 +186,7 @@ impl<J: Run, V: View> RightStrand<J, V> {
         scene: &Scene<'_, J>,
         spawning: &mut S,
         kits: &mut K,
-    ) -> Result<(), AllocError>
+    ) -> Result<bool, AllocError>
         requires given_kinds { (k : List Kind) → K.gives k kits.old → k ≡ J.setting.kinds }
         requires fits { K.fits J.setting.kinds kits.old }
         ensures steps { OnOk result (IsStepped J.setting self.old.strand self.new.strand) }
@@ -210,7 +210,7 @@ impl<J: Run, V: View> RightStrand<J, V> {
             spawning,
             kits,
         ) {
-            Ok(()) => Ok(()),
+            Ok(done) => Ok(done),
             Err(error) => {
                 self.failed = true;
                 Err(error)
