@@ -225,7 +225,9 @@ impl<J: Run + Ledger + Stocked + Send, D: Deques, V: View> Floor<'_, J, D, V> {
         let mut spawned = Spawned::new(seat.holds_enough());
         for _ in 0..steps {
             self.steps_ahead(number, is_watched, is_alone, &mut spawned, strand, gate)?;
-            self.record_ahead(is_watched || is_alone, &mut spawned, strand, supply)?;
+            if self.record_ahead(is_watched || is_alone, &mut spawned, strand, supply)? {
+                continue;
+            }
             match strand.advance(self.alloc, &self.scene, supply)? {
                 Paused::Working => {}
                 paused => return Ok(paused),
@@ -273,8 +275,8 @@ impl<J: Run + Ledger + Stocked + Send, D: Deques, V: View> Floor<'_, J, D, V> {
         Ok(())
     }
 
-    /// Iterations that are recorded in one go, unless steps are done one by one or there are records, which may answer some of them; those
-    /// of a half where spawned children are called. Want of memory is the only error.
+    /// Iterations that are recorded in one go, unless steps are done one by one; those of a half where spawned children are called. Whether there
+    /// were any. Want of memory is the only error.
     #[inline(always)]
     #[tactic(auto, using(crate::proofs::Staying::stays_on))]
     fn record_ahead<R: Wait>(
@@ -283,13 +285,13 @@ impl<J: Run + Ledger + Stocked + Send, D: Deques, V: View> Floor<'_, J, D, V> {
         spawned: &mut Spawned,
         strand: &mut RightStrand<J, V>,
         supply: &mut Supply<'_, Desk<J, D, V>, Kit<V>, KitsOf<J>, R>,
-    ) -> Result<(), AllocError>
+    ) -> Result<bool, AllocError>
         requires kits { kits_of strand.old.strand + supply.old.free ≡ most }
         ensures kits { kits_of strand.new.strand + supply.new.free ≡ most }
         ensures spot { OnOk result (spot_of strand.new.strand ≡ spot_of strand.old.strand) }
     {
-        if one_by_one || self.has_records {
-            return Ok(());
+        if one_by_one {
+            return Ok(false);
         }
         strand.record_ahead(self.alloc, &self.scene, spawned, supply)
     }
