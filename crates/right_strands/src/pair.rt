@@ -105,20 +105,16 @@ impl<J: Run, V: View> Pair<J, V> {
             right: mut room,
             start,
         } = self;
-        let right = room.take();
-        match left.join(scene, start, right) {
+        match left.join(scene, start, &mut room) {
             Ok(kit) => Ok((left, kit)),
-            Err((error, right)) => {
-                room.put(right);
-                Err((
-                    error,
-                    Pair {
-                        left,
-                        right: room,
-                        start,
-                    },
-                ))
-            }
+            Err(error) => Err((
+                error,
+                Pair {
+                    left,
+                    right: room,
+                    start,
+                },
+            )),
         }
     }
 }

@@ -11,8 +11,9 @@ ghost use Rattle.small_steps.specs.Steps.{GivesNone, HoldsFor};
 ghost use Rattle.activations.specs.Waiting.{leaves_none};
 ghost use Rattle.running_ahead.specs.Stepped.{IsStepped};
 ghost use Rattle.right_strands.specs.Rightness.{FitsHere, IsRightStrand, WasDetached};
-ghost use Rattle.right_strands.specs.Pairs.{IsPairFrom, IsStill};
+ghost use Rattle.right_strands.specs.Pairs.{IsPairIn, IsStill, right_of};
 
+use crate::room::Room;
 use crate::run::{Run, Scene};
 use crate::task::RightTask;
 use frames::strand::Strand;
@@ -318,35 +319,36 @@ impl<J: Run, V: View> RightStrand<J, V> {
         self.strand.close_upper(kits);
     }
 
-    /// Puts its right neighbour behind it, where the two are a pair and it begins there, and gives the right one's kit. Where memory is
-    /// refused the right one is handed back, which is its pair still, but by itself the strand has failed then.
+    /// Puts its right neighbour behind it, which lies in that room, where the two are a pair and it begins there, and gives the right
+    /// one's kit. Where memory is refused the right one lies there again, and is its pair still, but by itself the strand has failed then.
     pub(crate) fn join(
         &mut self,
         scene: &Scene<'_, J>,
         start: Start,
-        right: Strand<V>,
-    ) -> Result<Kit<V>, (AllocError, Strand<V>)>
-        requires pair { IsPairFrom J.setting start self.old.strand right }
+        room: &mut Room<V>,
+    ) -> Result<Kit<V>, AllocError>
+        requires pair { IsPairIn J.setting start self.old.strand room.old }
         ensures joined { OnOk result (self.new
-            ≡ record { strand = joined self.old.strand right; failed = false }) }
+            ≡ record { strand = joined self.old.strand (right_of self.old.strand room.old); failed = false }) }
         ensures kit { IfOk result (λ kit. kit ≡ J.setting.kinds) }
-        ensures one_layer { right.lower ≡ [] }
-        ensures pair { IfErr result (λ e. IsPairFrom J.setting start self.new.strand e.1) }
-        ensures still { IfErr result (λ e. IsStill
-            (record { left = self.old.strand; right = right })
-            (record { left = self.new.strand; right = e.1 })) }
+        ensures one_layer { (right_of self.old.strand room.old).lower ≡ [] }
+        ensures pair { OnErr result (IsPairIn J.setting start self.new.strand room.new) }
+        ensures still { OnErr result (IsStill
+            (record { left = self.old.strand; right = right_of self.old.strand room.old })
+            (record { left = self.new.strand; right = right_of self.new.strand room.new })) }
     {
         // The setting's records are sound: so the two are neighbours that may become one.
         scene.upheld();
-        match self.strand.join(right) {
+        match self.strand.join(room.take()) {
             Ok(kit) => {
                 self.start = start;
                 self.failed = false;
                 Ok(kit)
             }
             Err((error, right)) => {
+                room.put(right);
                 self.failed = true;
-                Err((error, right))
+                Err(error)
             }
         }
     }
