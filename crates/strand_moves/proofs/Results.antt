@@ -1,6 +1,6 @@
 -- What holds of a result where it is Ok.
 use Rattle.std.proofs.Common.{Result, Ok, Err, ◌⊎◌, inl}
-use Rattle.std.specs.Prelude.{IfOk, IfErr, OnOk}
+use Rattle.std.specs.Prelude.{IfOk, OnOk, OnErr}
 
 pub if_ok : {A E : Type 0} (P Q : A → Type 0) → ((a : A) → P a → Q a) → (r : Result A E) → IfOk r P → IfOk r Q
 if_ok P Q f (Ok a) h = f a h
@@ -10,6 +10,6 @@ pub on_ok : {A E : Type 0} (P Q : Type 0) → (P → Q) → (r : Result A E) →
 on_ok P Q f (Ok a) h = f h
 on_ok P Q f (Err e) h = h
 
-pub if_err_left : {A E : Type 0} (P : Type 0) (Q : E → Type 0) → P → (r : Result A E) → IfErr r (λ e. P ⊎ Q e)
-if_err_left P Q p (Ok a) = tt
-if_err_left P Q p (Err e) = inl p
+pub on_err_left : {A E : Type 0} (P Q : Type 0) → P → (r : Result A E) → OnErr r (P ⊎ Q)
+on_err_left P Q p (Ok a) = tt
+on_err_left P Q p (Err e) = inl p

@@ -10,6 +10,7 @@ use positions::phase::{Fault, Phase};
 use positions::start::Start;
 use small_steps::machine::Machine;
 use std::alloc::AllocError;
+use std::mem;
 use view_pool::{Kit, View};
 
 /// Gives the value of the child behind which the strand begins to the slots that wait for it.
@@ -46,13 +47,10 @@ pub fn join<V: View>(
         ≡ operate_all machine.old.layer.kinds machine.old.layer.worths right.layer.worths) }
     ensures views { IfErr result (λ e. FoldsViews machine.old.phase right.phase ⊎ ((machine.new ≡ machine.old) × (e.1 ≡ right))) }
 {
-    match machine.phase {
-        Phase::Leaving(value) => match right.phase {
-            Phase::Broken(fault) => join_broken(machine, fault, right),
-            _ => join_ended(machine, value, right),
-        },
-        Phase::Broken(first) => join_broken(machine, first, right),
-        _ => Ok(close(right)),
+    let mut right = right;
+    match take_up(machine, &mut right) {
+        Ok(()) => Ok(let_go(machine, right)),
+        Err(error) => Err((error, right)),
     }
 }
 
@@ -63,82 +61,119 @@ pub fn close<V: View>(machine: Machine<V>) -> Kit<V>
     machine.layer.close()
 }
 
+/// The kit of a strand with one layer that is let go. This strand keeps the lists of its topmost instance.
+fn let_go<V: View>(machine: &mut Machine<V>, over: Machine<V>) -> Kit<V>
+    ensures same { machine.new ≡ machine.old }
+    ensures kit { result ≡ over.layer.kinds }
+{
+    let Machine {
+        start: _,
+        layer,
+        lower: _,
+        path: _,
+        place,
+        top,
+        below,
+        phase: _,
+        arguments: _,
+        tally: _,
+        numbers: _,
+        spares: _,
+        lists: _,
+    } = over;
+    machine.spares.keep_child(top, below, place);
+    layer.close()
+}
+
+/// Puts the right neighbour behind this strand, which takes what it goes on with; the rest is to be let go. Where memory is refused
+/// both are as they were, but for reducers' values that have moved from the right one to the left.
+fn take_up<V: View>(machine: &mut Machine<V>, right: &mut Machine<V>) -> Result<(), AllocError>
+    requires done { IsDone machine.old.phase }
+    requires one_layer { right.old.lower ≡ [] }
+    requires kinds { machine.old.layer.kinds ≡ right.old.layer.kinds }
+    requires monoids { All IsMonoid machine.old.layer.kinds }
+    ensures joined { OnOk result (machine.new ≡ joined machine.old right.old) }
+    ensures kinds { right.new.layer.kinds ≡ right.old.layer.kinds }
+    ensures made { (kinds : List Kind) → HaveValues kinds machine.old.tally.made → HaveValues kinds right.old.tally.made
+        → HaveValues kinds machine.new.tally.made }
+    ensures left_kept { OnErr result (machine.new ≡ with_worths machine.new.layer.worths machine.old) }
+    ensures right_kept { OnErr result (right.new ≡ with_worths right.new.layer.worths right.old) }
+    ensures product { OnErr result (operate_all machine.old.layer.kinds machine.new.layer.worths right.new.layer.worths
+        ≡ operate_all machine.old.layer.kinds machine.old.layer.worths right.old.layer.worths) }
+    ensures views { OnErr result (FoldsViews machine.old.phase right.old.phase ⊎ ((machine.new ≡ machine.old) × (right.new ≡ right.old))) }
+{
+    match machine.phase {
+        Phase::Leaving(value) => match right.phase {
+            Phase::Broken(fault) => join_broken(machine, fault, right),
+            _ => join_ended(machine, value, right),
+        },
+        Phase::Broken(first) => join_broken(machine, first, right),
+        _ => Ok(()),
+    }
+}
+
 /// Is faulted, and takes over what the right neighbour has counted and recorded alone.
 fn join_broken<V: View>(
     machine: &mut Machine<V>,
     fault: Fault,
-    mut right: Machine<V>,
-) -> Result<Kit<V>, (AllocError, Machine<V>)>
-    ensures joined { OnOk result (machine.new ≡ joined_broken machine.old right fault) }
-    ensures kit { IfOk result (λ kit. kit ≡ right.layer.kinds) }
-    ensures made { (kinds : List Kind) → HaveValues kinds machine.old.tally.made → HaveValues kinds right.tally.made → HaveValues kinds machine.new.tally.made }
+    right: &mut Machine<V>,
+) -> Result<(), AllocError>
+    ensures joined { OnOk result (machine.new ≡ joined_broken machine.old right.old fault) }
+    ensures kinds { right.new.layer.kinds ≡ right.old.layer.kinds }
+    ensures made { (kinds : List Kind) → HaveValues kinds machine.old.tally.made → HaveValues kinds right.old.tally.made
+        → HaveValues kinds machine.new.tally.made }
     ensures left_kept { OnErr result (machine.new ≡ machine.old) }
-    ensures right_kept { IfErr result (λ e. e.1 ≡ right) }
+    ensures right_kept { OnErr result (right.new ≡ right.old) }
 {
     match machine.tally.take_over(&mut right.tally) {
-        Ok(()) => {
-            machine.phase = Phase::Broken(fault);
-            Ok(close(right))
-        }
-        Err(error) => Err((error, right)),
+        Ok(()) => {}
+        Err(error) => return Err(error),
     }
+    machine.phase = Phase::Broken(fault);
+    Ok(())
 }
 
 /// Goes on as the right neighbour, behind what this strand has done.
 fn join_ended<V: View>(
     machine: &mut Machine<V>,
     value: i64,
-    mut right: Machine<V>,
-) -> Result<Kit<V>, (AllocError, Machine<V>)>
-    requires one_layer { right.lower ≡ [] }
-    requires kinds { machine.old.layer.kinds ≡ right.layer.kinds }
+    right: &mut Machine<V>,
+) -> Result<(), AllocError>
+    requires one_layer { right.old.lower ≡ [] }
+    requires kinds { machine.old.layer.kinds ≡ right.old.layer.kinds }
     requires monoids { All IsMonoid machine.old.layer.kinds }
-    ensures joined { OnOk result (machine.new ≡ joined_ended machine.old value right) }
-    ensures kit { IfOk result (λ kit. kit ≡ right.layer.kinds) }
-    ensures made { (kinds : List Kind) → HaveValues kinds machine.old.tally.made → HaveValues kinds right.tally.made → HaveValues kinds machine.new.tally.made }
+    ensures joined { OnOk result (machine.new ≡ joined_ended machine.old value right.old) }
+    ensures kinds { right.new.layer.kinds ≡ right.old.layer.kinds }
+    ensures made { (kinds : List Kind) → HaveValues kinds machine.old.tally.made → HaveValues kinds right.old.tally.made
+        → HaveValues kinds machine.new.tally.made }
     ensures left_kept { OnErr result (machine.new ≡ with_worths machine.new.layer.worths machine.old) }
-    ensures right_kept { IfErr result (λ e. e.1 ≡ with_worths e.1.layer.worths right) }
-    ensures product { IfErr result (λ e. operate_all machine.old.layer.kinds machine.new.layer.worths e.1.layer.worths
-        ≡ operate_all machine.old.layer.kinds machine.old.layer.worths right.layer.worths) }
+    ensures right_kept { OnErr result (right.new ≡ with_worths right.new.layer.worths right.old) }
+    ensures product { OnErr result (operate_all machine.old.layer.kinds machine.new.layer.worths right.new.layer.worths
+        ≡ operate_all machine.old.layer.kinds machine.old.layer.worths right.old.layer.worths) }
 {
     match machine
         .tally
         .join(&mut right.tally, &mut machine.layer, &mut right.layer)
     {
         Ok(()) => {
-            give_child(&mut right, value);
-            Ok(go_on_as(machine, right))
+            give_child(right, value);
+            go_on_as(machine, right);
+            Ok(())
         }
-        Err(error) => Err((error, right)),
+        Err(error) => Err(error),
     }
 }
 
-/// Goes on with the instances of a strand that is let go, whose kit it gives.
-fn go_on_as<V: View>(machine: &mut Machine<V>, right: Machine<V>) -> Kit<V>
-    ensures goes_on { machine.new ≡ record right
+/// Goes on with the instances of a strand that is let go, which gets those that are over.
+fn go_on_as<V: View>(machine: &mut Machine<V>, right: &mut Machine<V>)
+    ensures goes_on { machine.new ≡ record right.old
         { start = machine.old.start; layer = machine.old.layer; lower = machine.old.lower; tally = machine.old.tally } }
-    ensures kit { result ≡ right.layer.kinds }
+    ensures kinds { right.new.layer.kinds ≡ right.old.layer.kinds }
 {
-    let Machine {
-        start: _,
-        layer,
-        lower: _,
-        path,
-        place,
-        top,
-        below,
-        phase,
-        arguments,
-        tally: _,
-        numbers: _,
-        spares: _,
-        lists: _,
-    } = right;
-    machine.path = path;
-    machine.place = place;
-    machine.top = top;
-    machine.below = below;
-    machine.phase = phase;
-    machine.arguments = arguments;
-    layer.close()
+    mem::swap(&mut machine.path, &mut right.path);
+    mem::swap(&mut machine.place, &mut right.place);
+    mem::swap(&mut machine.top, &mut right.top);
+    mem::swap(&mut machine.below, &mut right.below);
+    mem::swap(&mut machine.arguments, &mut right.arguments);
+    mem::swap(&mut machine.phase, &mut right.phase);
 }
