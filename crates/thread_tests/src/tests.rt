@@ -1,6 +1,7 @@
 //! Whole runs of sessions. What is wanted was worked out by hand; gates hold workers so that they do at the same time what is tested.
 
 mod beginning;
+mod comparing;
 mod counting;
 mod deques;
 mod floors;

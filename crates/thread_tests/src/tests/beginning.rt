@@ -1,6 +1,7 @@
 //! Runs by threads under gates, and the text of what they come to.
 ghost use Rattle.std.specs.Prelude.{◌<◌, ◌≤◌};
 
+use super::comparing::{same_count, same_text};
 use reuse_planner::Session;
 use session_kit::answers::answer_text;
 use session_kit::owners::in_session;
@@ -39,7 +40,7 @@ pub fn answer<V: View + Send, R: Abort + Threads + Wait + Sync, G: Gate>(
 ) -> String {
     let text = outcome(rt, alloc, session, workers.max(1).min(16), gate);
     let (free, total) = session.kits();
-    assert_eq!(rt; free, total);
+    same_count(rt, free, total);
     text
 }
 
@@ -61,6 +62,5 @@ pub fn is_answered<R: Abort + Threads + Wait + Sync, G: Gate>(
         count,
         |session| answer(rt, alloc, session, workers, gate),
     );
-    let found = found.expect(rt, "a session");
-    assert_eq!(rt; found.as_str(), wanted);
+    same_text(rt, &found.expect(rt, "a session"), wanted);
 }

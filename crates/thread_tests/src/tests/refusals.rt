@@ -2,11 +2,12 @@
 //! it was but for kits. With ample memory none is refused: `tests/refused` refuses each allocation in turn.
 
 use super::beginning::outcome;
+use super::comparing::{counted, same_count, same_text};
 use reuse_planner::Session;
 use session_kit::owners::{in_session, in_session_of_lists};
 use std::alloc::Global;
 use std::process::Abort;
-use std::sync::atomic::{AtomicUsize, Ordering};
+use std::sync::atomic::AtomicUsize;
 use std::sync::{Arc, Wait};
 use std::thread::Threads;
 use test_kit::refusing::Refuses;
@@ -34,7 +35,10 @@ const OTHERS: [Row; 4] = [
 ];
 
 /// How many edits the tables have had, the least number of a revision that was never used, and how many records there are.
-fn state_of<V: View>(session: &Session<V>) -> (u64, u64, usize) {
+type State = (u64, u64, usize);
+
+/// A session's state.
+fn state_of<V: View>(session: &Session<V>) -> State {
     let (tables, program) = (session.tables(), session.checked());
     (
         tables.edit_number(),
@@ -48,6 +52,22 @@ fn with_kits(kits: usize, wanted: &'static str) -> &'static str {
     if kits == 0 { "no kit\n" } else { wanted }
 }
 
+/// Whether a run was refused memory, by what it came to: then the session's state is that before. Else the run came to what it should.
+fn was_refused<V: View>(
+    rt: &impl Abort,
+    session: &Session<V>,
+    text: &str,
+    before: State,
+    wanted: &str,
+) -> bool {
+    if text == "no memory\n" {
+        assert!(rt; state_of(session) == before);
+        return true;
+    }
+    same_text(rt, text, wanted);
+    false
+}
+
 /// Whether a run is refused memory: then nothing has changed but what kits there are. Else it comes to what it should, and to nothing
 /// where no kit was left.
 fn is_refused<V: View + Send, R: Abort + Threads + Wait + Sync>(
@@ -59,13 +79,9 @@ fn is_refused<V: View + Send, R: Abort + Threads + Wait + Sync>(
     let before = state_of(session);
     let (free, _) = session.kits();
     let text = outcome(rt, alloc, session, 2, &NoGate);
-    if text.as_str() == "no memory\n" {
-        assert_eq!(rt; state_of(session), before);
-        return true;
-    }
-    assert!(rt; text.as_str() == with_kits(free, row.2));
-    assert!(rt; free == 0 || session.records().len() == row.3);
-    false
+    let refused = was_refused(rt, session, &text, before, with_kits(free, row.2));
+    assert!(rt; refused || free == 0 || session.records().len() == row.3);
+    refused
 }
 
 /// Of two runs one at most is refused, where one allocation is. How many kits are home behind them.
@@ -90,7 +106,7 @@ fn lost_ones_are_dropped<V: View + Send, R: Abort + Threads + Wait + Sync>(
     drops: &AtomicUsize,
 ) {
     let home = one_is_done(rt, alloc, session, row);
-    assert_eq!(rt; drops.load(Ordering::SeqCst).wrapping_add(home), row.1);
+    same_count(rt, counted(drops).wrapping_add(home), row.1);
 }
 
 /// Two such runs in a session, behind which each list was dropped once.
@@ -106,13 +122,13 @@ fn lists_are_dropped<R: Abort + Threads + Wait + Sync>(rt: &R, alloc: Global, ro
         |session| lost_ones_are_dropped(rt, alloc, session, row, &drops),
     );
     done.expect(rt, "a session");
-    assert_eq!(rt; drops.load(Ordering::SeqCst), row.1);
+    same_count(rt, counted(&drops), row.1);
 }
 
 #[test]
 fn lists_that_are_refused_memory(rt: HostRuntime) {
-    for row in LISTS {
-        lists_are_dropped(&rt, rt.alloc(), row);
+    for row in &LISTS {
+        lists_are_dropped(&rt, rt.alloc(), *row);
     }
 }
 
@@ -130,7 +146,7 @@ fn others_are_done<R: Abort + Threads + Wait + Sync>(rt: &R, alloc: Global, row:
 
 #[test]
 fn others_that_are_refused_memory(rt: HostRuntime) {
-    for row in OTHERS {
-        others_are_done(&rt, rt.alloc(), row);
+    for row in &OTHERS {
+        others_are_done(&rt, rt.alloc(), *row);
     }
 }

@@ -1,12 +1,13 @@
 //! A run by threads that gives up at a fold, and what becomes of the views of its strands.
 
 use super::beginning::outcome;
+use super::comparing::{counted, same_count, same_text};
 use super::meeting::Meeting;
 use reuse_planner::Session;
 use session_kit::owners::in_session_of_lists;
 use std::alloc::Global;
 use std::process::Abort;
-use std::sync::atomic::{AtomicUsize, Ordering};
+use std::sync::atomic::AtomicUsize;
 use std::sync::{Arc, Wait};
 use std::thread::Threads;
 use test_kit::refusing::Refuses;
@@ -22,7 +23,7 @@ fn gives_up<V: View + Send, R: Abort + Threads + Wait + Sync>(
     meeting: &Meeting,
 ) -> usize {
     let text = outcome(rt, alloc, session, 2, meeting);
-    assert_eq!(rt; text.as_str(), "no memory\n");
+    same_text(rt, &text, "no memory\n");
     session.kits().0
 }
 
@@ -35,7 +36,7 @@ fn are_dropped<V: View + Send, R: Abort + Threads + Wait + Sync>(
 ) {
     let meeting = Meeting::of(alloc, 2).expect(rt, "memory");
     let home = gives_up(rt, alloc, session, &meeting);
-    assert_eq!(rt; drops.load(Ordering::SeqCst).wrapping_add(home), 2);
+    same_count(rt, counted(drops).wrapping_add(home), 2);
     assert!(rt; meeting.was_held() && home == 0);
 }
 
@@ -53,5 +54,5 @@ fn views_of_a_refused_fold(rt: HostRuntime) {
         |session| are_dropped(&rt, rt.alloc(), session, &drops),
     );
     done.expect(&rt, "a session");
-    assert_eq!(&rt; drops.load(Ordering::SeqCst), 2);
+    same_count(&rt, counted(&drops), 2);
 }

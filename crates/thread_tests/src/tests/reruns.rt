@@ -1,6 +1,7 @@
 //! What is done again in a second run.
 
 use super::beginning::answer;
+use super::comparing::{same_count, same_text};
 use super::counting::Updates;
 use reuse_planner::Session;
 use session_edits::Edit;
@@ -22,9 +23,8 @@ fn updates<V: View + Send, R: Abort + Threads + Wait + Sync>(
     count: usize,
 ) {
     let updates = Updates::new();
-    let found = answer(rt, alloc, session, workers, &updates);
-    assert_eq!(rt; found.as_str(), wanted);
-    assert_eq!(rt; updates.taken(), count);
+    same_text(rt, &answer(rt, alloc, session, workers, &updates), wanted);
+    same_count(rt, updates.taken(), count);
 }
 
 const FIRST_LINES: &str = "result 131\ntotal 131\ntop 100 3\n";

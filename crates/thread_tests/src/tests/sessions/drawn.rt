@@ -160,5 +160,8 @@ pub fn any_steps<V: View>(
     let Ok(mut core) = Core::start(alloc, program, tables, records, Pool::new(kits), workers) else {
         panic!(rt; "not started");
     };
-    drive(rt, alloc, &mut core, dice, workers)
+    let steps = drive(rt, alloc, &mut core, dice, workers);
+    // What is dropped here is what a run leaves, and not the run itself.
+    core.finish(alloc);
+    steps
 }

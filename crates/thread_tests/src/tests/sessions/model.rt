@@ -126,6 +126,33 @@ pub struct DrawnEdit {
     pub answer: &'static str,
 }
 
+/// An edit that is done.
+fn accepted(script: String) -> DrawnEdit {
+    DrawnEdit {
+        script,
+        answer: "ok\n",
+    }
+}
+
+/// One of the edits that are refused, drawn.
+fn drawn_refusal(rt: &impl Abort, alloc: Global, dice: &mut Dice) -> DrawnEdit {
+    let (script, answer) = REFUSED[dice.below(14)];
+    DrawnEdit {
+        script: text_of(rt, alloc, script),
+        answer,
+    }
+}
+
+/// A text of the procedure of that number, drawn.
+fn drawn_text(number: usize, dice: &mut Dice) -> &'static str {
+    match number {
+        0 => LINES[dice.below(4)],
+        1 => PAIRS[dice.below(3)],
+        2 => ALLS[dice.below(3)],
+        _ => MAINS[dice.below(2)],
+    }
+}
+
 /// The rows of the table, and the texts of `line`, `pair`, `all` and `main`.
 #[derive(Drop)]
 pub struct Model {
@@ -166,11 +193,8 @@ impl Model {
         let qty = dice.below(4) as i64;
         let price = dice.below(20) as i64;
         self.put_row(rt, alloc, row, qty, price);
-        let script = format!(in alloc; "put sales {row} {qty} {price}\n");
-        DrawnEdit {
-            script: script.expect(rt, "memory"),
-            answer: "ok\n",
-        }
+        let script = format!(in alloc; "put sales {row} {qty} {price}\n").expect(rt, "memory");
+        accepted(script)
     }
 
     /// Deletes a row that is drawn, where there is one of its number.
@@ -189,18 +213,11 @@ impl Model {
 
     /// Gives a procedure a text that is drawn.
     fn define(&mut self, rt: &impl Abort, alloc: Global, dice: &mut Dice) -> DrawnEdit {
-        let (number, text) = match dice.below(4) {
-            0 => (0, LINES[dice.below(4)]),
-            1 => (1, PAIRS[dice.below(3)]),
-            2 => (2, ALLS[dice.below(3)]),
-            _ => (3, MAINS[dice.below(2)]),
-        };
+        let number = dice.below(4);
+        let text = drawn_text(number, dice);
         self.texts[number] = text;
-        let script = format!(in alloc; "define\n{text}end\n");
-        DrawnEdit {
-            script: script.expect(rt, "memory"),
-            answer: "ok\n",
-        }
+        let script = format!(in alloc; "define\n{text}end\n").expect(rt, "memory");
+        accepted(script)
     }
 
     /// An edit that is drawn.
@@ -209,11 +226,7 @@ impl Model {
             0..=2 => self.put(rt, alloc, dice),
             3 => self.delete(rt, alloc, dice),
             4 | 5 => self.define(rt, alloc, dice),
-            _ => {
-                let (script, answer) = REFUSED[dice.below(14)];
-                let script = text_of(rt, alloc, script);
-                DrawnEdit { script, answer }
-            }
+            _ => drawn_refusal(rt, alloc, dice),
         }
     }
 

@@ -56,25 +56,11 @@ fn outdated(program: &Checked, entered: &[(usize, u64)]) -> usize {
     count
 }
 
-/// Compares the number of a record with the slow count.
-fn compare<V: View>(rt: &impl Abort, alloc: Global, session: &Session<V>, record: &Record) {
-    let notes = record.reads().notes(alloc).expect(rt, "memory");
-    let revisions = outdated(session.checked(), record.entered());
-    let wanted = lapsed(session.tables(), &notes).saturating_add(revisions);
-    let name = procedure_name(
-        &session.checked().program().declarations,
-        record.procedure(),
-    );
+/// The call of that procedure with these arguments.
+fn call_of(rt: &impl Abort, alloc: Global, name: &str, arguments: &[i64]) -> Key {
     let name = String::from_str(alloc, name).expect(rt, "memory");
-    let arguments = Vec::from_slice(alloc, record.arguments()).expect(rt, "memory");
-    assert_eq!(rt; session.stale(&Key::new(name, arguments)), Some(wanted));
-}
-
-/// Compares the numbers of all records with slow counts.
-pub fn compare_all<V: View>(rt: &impl Abort, alloc: Global, session: &Session<V>) {
-    for record in session.records().as_slice() {
-        compare(rt, alloc, session, record);
-    }
+    let arguments = Vec::from_slice(alloc, arguments).expect(rt, "memory");
+    Key::new(name, arguments)
 }
 
 /// The number of the record of that procedure with these arguments.
@@ -85,16 +71,50 @@ fn stale<V: View>(
     name: &str,
     arguments: &[i64],
 ) -> Option<usize> {
-    let name = String::from_str(alloc, name).expect(rt, "memory");
-    let arguments = Vec::from_slice(alloc, arguments).expect(rt, "memory");
-    session.stale(&Key::new(name, arguments))
+    session.stale(&call_of(rt, alloc, name, arguments))
 }
 
-/// What `line` came to at that row, where its record would answer a call of `main`.
-fn value<V: View>(rt: &impl Abort, alloc: Global, session: &Session<V>, row: i64) -> Option<i64> {
-    let name = String::from_str(alloc, "line").expect(rt, "memory");
-    let arguments = Vec::from_slice(alloc, &[row]).expect(rt, "memory");
-    match session.lookup(&Key::new(name, arguments), 2) {
+/// Compares two numbers.
+fn same_number(rt: &impl Abort, found: Option<usize>, wanted: Option<usize>) {
+    assert_eq!(rt; found, wanted);
+}
+
+/// The slow count of a record.
+fn counted<V: View>(
+    rt: &impl Abort,
+    alloc: Global,
+    session: &Session<V>,
+    record: &Record,
+) -> usize {
+    let notes = record.reads().notes(alloc).expect(rt, "memory");
+    let revisions = outdated(session.checked(), record.entered());
+    lapsed(session.tables(), &notes).saturating_add(revisions)
+}
+
+/// Compares the number of a record with the slow count.
+fn compare<V: View>(rt: &impl Abort, alloc: Global, session: &Session<V>, record: &Record) {
+    let wanted = counted(rt, alloc, session, record);
+    let name = procedure_name(
+        &session.checked().program().declarations,
+        record.procedure(),
+    );
+    same_number(
+        rt,
+        stale(rt, alloc, session, name, record.arguments()),
+        Some(wanted),
+    );
+}
+
+/// Compares the numbers of all records with slow counts.
+pub fn compare_all<V: View>(rt: &impl Abort, alloc: Global, session: &Session<V>) {
+    for record in session.records().as_slice() {
+        compare(rt, alloc, session, record);
+    }
+}
+
+/// What `line` came to at the second row, where its record would answer a call of `main`.
+fn value<V: View>(rt: &impl Abort, alloc: Global, session: &Session<V>) -> Option<i64> {
+    match session.lookup(&call_of(rt, alloc, "line", &[2]), 2) {
         Some(record) => Some(record.value()),
         None => None,
     }
@@ -105,78 +125,84 @@ fn play<V: View>(rt: &impl Abort, alloc: Global, session: &mut Session<V>, scrip
     played(alloc, session, script.as_bytes()).expect(rt, "memory");
 }
 
-/// The numbers of `line(1)` and `line(2)` after a run and edits of row 2, and after `line` is defined anew.
-fn lines_by_hand<V: View>(rt: &impl Abort, alloc: Global, session: &mut Session<V>) {
-    assert_eq!(rt; stale(rt, alloc, session, "line", &[2]), None);
-    play(rt, alloc, session, "run\n");
-    for (edit, number) in [
-        ("put sales 2 4 7\n", 1),
-        ("put sales 2 4 8\n", 2),
-        ("put sales 2 3 7\n", 0),
-    ] {
-        play(rt, alloc, session, edit);
-        assert_eq!(rt; stale(rt, alloc, session, "line", &[1]), Some(0), "{edit}");
-        assert_eq!(rt;
-            stale(rt, alloc, session, "line", &[2]),
-            Some(number),
-            "{edit}"
-        );
-        assert_eq!(rt;
-            value(rt, alloc, session, 2).is_some(),
-            number == 0,
-            "{edit}"
-        );
-    }
-    assert_eq!(rt; value(rt, alloc, session, 2), Some(21));
-    play(
-        rt,
-        alloc,
-        session,
+/// A script, the numbers of `line(1)`, `line(2)`, `line(3)` and `all()` behind it, and what `line(2)` came to, where its record would
+/// answer.
+type ByHand = (&'static str, [Option<usize>; 4], Option<i64>);
+
+/// Nothing, a run and edits of row 2, and a define of `line`.
+const LINES_BY_HAND: [ByHand; 5] = [
+    ("", [None, None, None, None], None),
+    (
+        "run\nput sales 2 4 7\n",
+        [Some(0), Some(1), Some(0), None],
+        None,
+    ),
+    ("put sales 2 4 8\n", [Some(0), Some(2), Some(0), None], None),
+    (
+        "put sales 2 3 7\n",
+        [Some(0), Some(0), Some(0), None],
+        Some(21),
+    ),
+    (
         "define\nmemo proc line(r) { return r; }\nend\n",
-    );
-    for row in 1..4 {
-        assert_eq!(rt; stale(rt, alloc, session, "line", &[row]), Some(1));
-    }
+        [Some(1), Some(1), Some(1), None],
+        None,
+    ),
+];
+
+/// Edits behind a run of `all()`, which has read what its lines have and the limit; each in a session of its own.
+const NESTED_BY_HAND: [ByHand; 2] = [
+    (
+        "run\nput sales 5 1 1\n",
+        [Some(0), Some(0), Some(0), Some(1)],
+        Some(0),
+    ),
+    (
+        "run\ndel sales 2\n",
+        [Some(0), Some(3), Some(0), Some(3)],
+        None,
+    ),
+];
+
+/// Plays a script, and compares the numbers behind it.
+fn by_hand<V: View>(rt: &impl Abort, alloc: Global, session: &mut Session<V>, step: ByHand) {
+    let (script, numbers, came) = step;
+    play(rt, alloc, session, script);
+    same_number(rt, stale(rt, alloc, session, "line", &[1]), numbers[0]);
+    same_number(rt, stale(rt, alloc, session, "line", &[2]), numbers[1]);
+    same_number(rt, stale(rt, alloc, session, "line", &[3]), numbers[2]);
+    same_number(rt, stale(rt, alloc, session, "all", &[]), numbers[3]);
+    assert_eq!(rt; value(rt, alloc, session), came, "{script}");
 }
 
-/// The numbers of `all()`, which has read what its lines have and the limit, and of `line(2)`.
-fn nested_by_hand<V: View>(
+/// Plays scripts one after another.
+fn all_by_hand<V: View>(
     rt: &impl Abort,
     alloc: Global,
     session: &mut Session<V>,
-    edit: &str,
-    all: usize,
-    line: usize,
+    steps: &[ByHand],
 ) {
-    play(rt, alloc, session, "run\n");
-    play(rt, alloc, session, edit);
-    assert_eq!(rt; stale(rt, alloc, session, "all", &[]), Some(all), "{edit}");
-    assert_eq!(rt;
-        stale(rt, alloc, session, "line", &[2]),
-        Some(line),
-        "{edit}"
+    for step in steps {
+        by_hand(rt, alloc, session, *step);
+    }
+}
+
+/// Plays scripts in a new session.
+fn in_new_session(rt: &impl Abort, alloc: Global, program: &str, steps: &[ByHand]) {
+    let played = in_session(
+        alloc,
+        program,
+        SALES,
+        64,
+        |session| all_by_hand(rt, alloc, session, steps),
     );
+    played.expect(rt, "a session");
 }
 
 #[test]
 fn numbers_of_stale_readings(rt: HostRuntime) {
-    let alloc = rt.alloc();
-    let played = in_session(
-        alloc,
-        LINES,
-        SALES,
-        64,
-        |session| lines_by_hand(&rt, alloc, session),
-    );
-    assert!(&rt; played.is_some());
-    for (edit, all, line) in [("put sales 5 1 1\n", 1, 0), ("del sales 2\n", 3, 3)] {
-        let played = in_session(
-            alloc,
-            NESTED_READS,
-            SALES,
-            64,
-            |session| nested_by_hand(&rt, alloc, session, edit, all, line),
-        );
-        assert!(&rt; played.is_some());
+    in_new_session(&rt, rt.alloc(), LINES, &LINES_BY_HAND);
+    for step in NESTED_BY_HAND {
+        in_new_session(&rt, rt.alloc(), NESTED_READS, &[step]);
     }
 }
