@@ -131,6 +131,47 @@ struct Report {
     status: u8,
 }
 
+// The status of a report that has ended so.
+fn status_of(ended: &Result<(), ProgramError>) -> u8 {
+    match ended {
+        Ok(()) => 0,
+        Err(error) => status(error),
+    }
+}
+
+// Does a report of these files, and gives the status that it ends by.
+fn ended_by(
+    rt: &(impl Abort + Threads + Wait + Sync),
+    alloc: Global,
+    program: &Program<'_>,
+    script: &[u8],
+    answers: &Cell<Page>,
+    counts: &Cell<Page>,
+) -> u8 {
+    let make = |_sort: Sort, kind: Kind| -> Result<PlainView, AllocError> {
+        Ok(PlainView::new(alloc, kind))
+    };
+    let mut reader = script;
+    let setting = Setting {
+        rt,
+        alloc,
+        options: ASKED,
+    };
+    let told = Told {
+        errors: Pen::on(counts),
+        explain: Explainer::new(alloc, io::sink()),
+    };
+    status_of(&report_on(
+        &setting,
+        &make,
+        program,
+        &mut reader,
+        &mut Pen::on(answers),
+        told,
+        &mut Failures::none(),
+    ))
+}
+
 // Does a report whose trace has room for so many bytes, and is flushed or not.
 fn reported(
     rt: &(impl Abort + Threads + Wait + Sync),
@@ -140,47 +181,19 @@ fn reported(
     room: usize,
     flushes: bool,
 ) -> Report {
-    let make = |_sort: Sort, kind: Kind| -> Result<PlainView, AllocError> {
-        Ok(PlainView::new(alloc, kind))
-    };
-    let mut reader = script;
     let (answers, trace, counts) = (Cell::new(EMPTY), Cell::new(EMPTY), Cell::new(EMPTY));
-    let setting = Setting {
-        rt,
-        alloc,
-        options: ASKED,
+    let program = Program {
+        text,
+        trace: &trace,
+        room,
+        flushes,
     };
-    let told = Told {
-        errors: Pen::on(&counts),
-        explain: Explainer::new(alloc, io::sink()),
-    };
-    let ended = report_on(
-        &setting,
-        &make,
-        &Program {
-            text,
-            trace: &trace,
-            room,
-            flushes,
-        },
-        &mut reader,
-        &mut Pen::on(&answers),
-        told,
-        &mut Failures::none(),
-    );
+    let status = ended_by(rt, alloc, &program, script, &answers, &counts);
     Report {
         answers: answers.get(),
         trace: trace.get(),
         counts: counts.get(),
-        status: status_of(&ended),
-    }
-}
-
-// The status of a report that has ended so.
-fn status_of(ended: &Result<(), ProgramError>) -> u8 {
-    match ended {
-        Ok(()) => 0,
-        Err(error) => status(error),
+        status,
     }
 }
 
@@ -231,53 +244,68 @@ fn of_reports(rt: HostRuntime) {
     }
 }
 
-// The answer to the run that couldn't be noted isn't written, nor are its counts.
+// Whether the answer to a run that couldn't be noted isn't written, nor are its counts, and the trace is this.
 fn is_not_noted(
     rt: &(impl Abort + Threads + Wait + Sync),
     alloc: Global,
     room: usize,
     flushes: bool,
     trace: &[u8],
-) {
+) -> bool {
     let report = reported(rt, alloc, FIRST, b"here\nrun\n", room, flushes);
-    assert_eq!(rt; report.answers.text(), b"refused E19 1\n".as_slice());
-    assert_eq!(rt; report.trace.text(), trace);
-    assert_eq!(rt; (report.counts.len, report.status), (0, 1));
+    report.answers.text() == b"refused E19 1\n".as_slice()
+        && report.trace.text() == trace
+        && report.counts.len == 0
+        && report.status == 1
 }
 
 #[test]
 fn a_trace_without_room_or_not_flushed(rt: HostRuntime) {
-    is_not_noted(&rt, rt.alloc(), 7, true, b"run 1\nf");
-    is_not_noted(&rt, rt.alloc(), 128, false, b"run 1\nfinish root\n");
+    assert!(&rt; is_not_noted(&rt, rt.alloc(), 7, true, b"run 1\nf"));
+    assert!(&rt; is_not_noted(&rt, rt.alloc(), 128, false, b"run 1\nfinish root\n"));
+}
+
+// Whether memory was refused, or a program is refused for the first line of `main`.
+fn is_of_main(error: &PrepareError) -> bool {
+    match error {
+        PrepareError::NoMemory => true,
+        PrepareError::Check { name, line, .. } => name.as_str() == "main" && *line == 1,
+        _ => false,
+    }
 }
 
 #[test]
 fn of_a_check(rt: HostRuntime) {
-    match &prepare_error(&rt, rt.alloc(), b"proc main() { return x; }", "") {
-        PrepareError::NoMemory => {}
-        PrepareError::Check { name, line, .. } => {
-            assert_eq!(&rt; name.as_str(), "main");
-            assert_eq!(&rt; *line, 1);
-        }
-        _ => assert!(&rt; false),
+    let error = prepare_error(&rt, rt.alloc(), b"proc main() { return x; }", "");
+    assert!(&rt; is_of_main(&error));
+}
+
+// Whether memory was refused, or the sales are no table.
+fn is_of_sales(error: &PrepareError) -> bool {
+    match error {
+        PrepareError::NoMemory => true,
+        PrepareError::Shape { table } => table.as_str() == "sales",
+        _ => false,
     }
 }
 
 #[test]
 fn of_tables(rt: HostRuntime) {
-    match &prepare_error(&rt, rt.alloc(), FIRST, "[sales]\nrows = 1\n") {
-        PrepareError::NoMemory => {}
-        PrepareError::Shape { table } => assert_eq!(&rt; table.as_str(), "sales"),
-        _ => assert!(&rt; false),
+    let error = prepare_error(&rt, rt.alloc(), FIRST, "[sales]\nrows = 1\n");
+    assert!(&rt; is_of_sales(&error));
+}
+
+// Whether memory was refused, or there are three workers and five kits.
+fn are_three_and_five(given: &Result<Options<'_>, OptionsError>) -> bool {
+    match given {
+        Ok(given) => given.workers == 3 && given.kits == 5,
+        Err(OptionsError::NoMemory) => true,
+        Err(_) => false,
     }
 }
 
 #[test]
 fn of_a_line(rt: HostRuntime) {
     let words = ["cilkreport", "p", "t", "--workers", "3", "--kits", "5"];
-    match options(rt.alloc(), &words) {
-        Ok(given) => assert_eq!(&rt; (given.workers, given.kits), (3, 5)),
-        Err(OptionsError::NoMemory) => {}
-        Err(_) => assert!(&rt; false),
-    }
+    assert!(&rt; are_three_and_five(&options(rt.alloc(), &words)));
 }
