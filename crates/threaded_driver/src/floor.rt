@@ -417,10 +417,14 @@ impl<J: Run + Ledger + Stocked + Send, D: Deques, V: View> Floor<'_, J, D, V> {
         unreachable!()
     }
 
-    /// Pops what is left in the worker's deque: what a strand with a fault has left there is behind the fault, and nobody needs it.
+    /// Pops what is left in the worker's deque: what a strand with a fault has left there is behind the fault, and nobody needs it. Where it
+    /// was found empty just now the lock isn't taken again.
     fn drain<R: Wait>(&self, rt: &R, seat: &mut Seat<J, D>)
         ensures drained { seat.new.here ≡ None }
     {
+        if !seat.may_be_bound() {
+            return;
+        }
         for _ in rt.forever() {
             if self.take(rt, seat).is_none() {
                 return;

@@ -21,22 +21,24 @@ pub struct PlainSeat {
     pub here: Option<Spot>,
 }
 
-/// What a worker has to itself: its end of its deque, and its part of the count of those that have left.
+/// What a worker has to itself: its end of its deque, and its part of the count of those that have left. Whether its deque may be bound
+/// to a spot stands beside it, so that nobody has to ask under the lock where it isn't.
 #[derive(Drop)]
 pub struct Seat<J: Run + Ledger + Send, D: Deques> {
     owner: OwnerEnd<Waiting<J>, D>,
     share: Share<J>,
+    may_be_bound: bool,
 }
 
 impl<J: Run + Ledger + Send, D: Deques> Model for Seat<J, D> {
-    ghost use Rattle.std.specs.Prelude.{◌≡◌};
+    ghost use Rattle.std.specs.Prelude.{◌≡◌, false, None};
     ghost use Rattle.worker_seats.specs.declared.seat.PlainSeat.{PlainSeat};
 
     ghost Value = { PlainSeat };
 
     ghost view = { λ s. record { left = s.share.amount; here = s.owner.here } };
 
-    ghost invariant = { λ s. s.share.parts ≡ 1 };
+    ghost invariant = { λ s. (s.share.parts ≡ 1) × (s.may_be_bound ≡ false → s.owner.here ≡ None) };
 }
 
 impl<J: Run + Ledger + Send, D: Deques> Seat<J, D> {
@@ -46,7 +48,18 @@ impl<J: Run + Ledger + Send, D: Deques> Seat<J, D> {
         requires none { share.amount ≡ 0 }
         ensures none { result.left ≡ 0 }
     {
-        Seat { owner, share }
+        Seat {
+            owner,
+            share,
+            may_be_bound: true,
+        }
+    }
+
+    /// Whether its deque may be bound to a spot.
+    pub fn may_be_bound(&self) -> bool
+        ensures unbound { result ≡ false → self.now.here ≡ None }
+    {
+        self.may_be_bound
     }
 
     /// The number of its deque.
@@ -66,6 +79,7 @@ impl<J: Run + Ledger + Send, D: Deques> Seat<J, D> {
             Ok(task) => task,
             Err(refused) => return Err(refused.value),
         };
+        self.may_be_bound = true;
         match self.owner.push(Waiting { task }) {
             Ok(()) => Ok(()),
             Err(waiting) => Err(Box::into_inner(waiting.task)),
@@ -78,6 +92,7 @@ impl<J: Run + Ledger + Send, D: Deques> Seat<J, D> {
         ensures popped { IfSome result (λ t. self.new.here ≡ Some (own_spot t.value)) }
         ensures same { IfNone result (self.new ≡ self.old) }
     {
+        self.may_be_bound = true;
         match self.owner.pop() {
             Some(waiting) => Some(waiting.task),
             None => None,
@@ -97,7 +112,11 @@ impl<J: Run + Ledger + Send, D: Deques> Seat<J, D> {
         ensures drained { result ≡ true → self.new.here ≡ None }
         ensures same { result ≡ false → self.new ≡ self.old }
     {
-        self.owner.unbind_if_drained(thief)
+        if self.owner.unbind_if_drained(thief) {
+            self.may_be_bound = false;
+            return true;
+        }
+        false
     }
 
     /// Counts its worker among those that have left.
