@@ -74,8 +74,11 @@ impl Covers {
             → AreApart records change.now result end }
     {
         let first = self.skips.apart_to(end, change, cursor);
-        if first < end || !self.skips.are_far(end, cursor) {
+        if first < end || end % NARROW != 0 {
             return first;
+        }
+        if !self.skips.are_far(end, cursor) {
+            return end;
         }
         let first = self.apart_by_hull(end, change);
         self.skips.move_to(first, end, cursor);

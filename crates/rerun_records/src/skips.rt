@@ -346,6 +346,9 @@ fn apart_in(skips: &[Skip], end: usize, change: &(usize, i64), cursor: &mut Curs
         → PassBut [] records (record { done = done; skips = skips.now })
         → AreApart records change.now result end }
 {
+    if skips.is_empty() {
+        return end;
+    }
     let number = last_until(skips, end, cursor.next);
     cursor.next = number;
     cursor.is_around = false;
