@@ -1,5 +1,5 @@
 -- Items in several lists, and the room in which they become one.
-use Rattle.std.specs.Prelude.{◌≡◌, ℕ, suc, ◌+◌, ◌≤◌, List, [], ◌∷◌, ◌++◌, length, Vec, vec_len, vec_capacity}
+use Rattle.std.specs.Prelude.{◌≡◌, ℕ, suc, ◌+◌, ◌<◌, ◌≤◌, List, [], ◌∷◌, ◌++◌, length, Vec, vec_len, vec_capacity}
 use Rattle.std.specs.declared.alloc.Global.{Global}
 use Rattle.list_pieces.specs.declared.pieces.Pieces.{Pieces}
 use Rattle.list_pieces.specs.declared.pieces.Behind.{Behind}
@@ -23,6 +23,10 @@ needed (v ∷ vs) n = n
 abbrev pub IsRoomy : {T : Type 0} → Pieces T → Type 0
 IsRoomy m = (m.count ≡ length (all_in m.earlier.items)) × (m.room.items ≡ []) × (vec_len m.last ≤ m.limit) × (m.limit ≤ vec_capacity m.last)
     × (needed m.earlier.items (m.count + m.limit) ≤ vec_capacity m.room)
+
+-- the last list takes one more item
+abbrev pub HasRoom : {T : Type 0} → Pieces T → Type 0
+HasRoom m = vec_len m.last < m.limit
 
 -- there is room for the others behind these: in the last list, or for their lists and for all together
 abbrev pub IsReadyFor : {T : Type 0} → Behind → Pieces T → Pieces T → Type 0

@@ -1,6 +1,6 @@
 //! Lists in pieces: two are put together without copying long ones, and all pieces become one list without memory.
-ghost use Rattle.std.specs.Prelude.{◌≡◌, ◌+◌, ◌<◌, ◌≤◌, ◌++◌, ◌∷◌, [], IfOk, OnOk, vec_len, vec_capacity, length};
-ghost use Rattle.list_pieces.specs.Pieces.{all_in, items_in, IsRoomy, IsReadyFor};
+ghost use Rattle.std.specs.Prelude.{◌≡◌, ◌+◌, ◌≤◌, ◌++◌, ◌∷◌, [], IfOk, OnOk, vec_len, vec_capacity, length};
+ghost use Rattle.list_pieces.specs.Pieces.{all_in, items_in, IsRoomy, HasRoom, IsReadyFor};
 
 use std::alloc::{AllocError, Global};
 use std::mem;
@@ -51,7 +51,7 @@ impl<T: Drop> Pieces<T> {
         requires roomy { IsRoomy self.old }
         ensures items { items_in self.new ≡ items_in self.old }
         ensures roomy { IsRoomy self.new }
-        ensures room { OnOk result (vec_len self.new.last < self.new.limit) }
+        ensures room { OnOk result (HasRoom self.new) }
     {
         if self.last.len() < self.limit {
             return Ok(());
@@ -88,7 +88,7 @@ impl<T: Drop> Pieces<T> {
     #[inline(always)]
     pub fn push(&mut self, item: T)
         requires roomy { IsRoomy self.old }
-        requires room { vec_len self.old.last < self.old.limit }
+        requires room { HasRoom self.old }
         ensures items { items_in self.new ≡ items_in self.old ++ item ∷ [] }
         ensures roomy { IsRoomy self.new }
     {

@@ -63,8 +63,7 @@ impl<J: Run + Ledger + Stocked + Send, D: Deques, V: View> Floor<'_, J, D, V> {
         ensures left { is_left result ≡ true → 0 < seat.new.left }
         ensures here { IsAt seat.new.here result }
     {
-        let (strand, share) = held.into_parts();
-        let mut strand = strand;
+        let (mut strand, share) = held.into_parts();
         let mut supply = Supply::new(rt, &self.desk, share, strand.kits());
         self.is_alone.store(true, Ordering::Relaxed);
         let goes_on = self.go_far(rt, number, seat, &mut *strand, &mut supply, gate);

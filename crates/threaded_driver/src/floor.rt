@@ -164,8 +164,7 @@ impl<J: Run + Ledger + Stocked + Send, D: Deques, V: View> Floor<'_, J, D, V> {
         requires bound { IsBoundTo seat.old.here (spot_of held.strand) }
         ensures fresh { seat.new.here ≡ None }
     {
-        let (strand, share) = held.into_parts();
-        let mut strand = strand;
+        let (mut strand, share) = held.into_parts();
         let mut supply = Supply::new(rt, &self.desk, share, strand.kits());
         for _ in rt.forever() {
             if !self.step(rt, number, seat, &mut *strand, &mut supply, gate) {
