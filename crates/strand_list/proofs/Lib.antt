@@ -2,3 +2,4 @@ pub mod Lists
 pub mod Apart
 pub mod Steps
 pub mod Replays
+pub mod Numbered

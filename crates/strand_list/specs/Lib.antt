@@ -1,4 +1,5 @@
 pub mod Pages
+pub mod Numbers
 pub mod Laying
 pub mod Steps
 pub mod Replays

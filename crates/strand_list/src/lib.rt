@@ -7,5 +7,6 @@ pub mod history;
 pub mod kits;
 pub mod laid_state;
 pub mod lines;
+mod numbers;
 pub mod page;
 pub mod waiting;

@@ -1,28 +1,46 @@
 //! The list of strands with the places that were split off, and the steps that it allows.
+ghost use Rattle.std.specs.Prelude.{◌<◌};
+
 use crate::laid_state::{LaidState, state_of};
 use crate::lines::{
     are_neighbours, find, has_strand, is_alone, is_free, is_held_at, is_root, is_unused, may_fold,
     put_behind, set_state, take_out,
 };
+use crate::numbers::number_of;
 use numbered_runs::step::{BookStep, Place, State, StrandLine};
+use place_chains::places::Places;
 use std::alloc::{AllocError, Global};
 use std::marker::Model;
 
-/// The strands in serial order, and the places that were split off.
+/// For how many places that are split off room is made with the first one.
+const FEW: usize = 16;
+
+/// The strands in serial order, and the places that were split off, which are found by their numbers.
 #[derive(Drop)]
 pub struct Page {
     lines: Vec<StrandLine>,
     split_off: Vec<Place>,
+    numbers: Places,
 }
 
 impl Model for Page {
-    ghost use Rattle.std.specs.Prelude.{reverse};
+    ghost use Rattle.std.specs.Prelude.{◌≡◌, map, reverse};
     ghost use Rattle.meaning.specs.Strands.{Book};
+    ghost use Rattle.strand_list.specs.Numbers.{number_of};
     ghost use Rattle.strand_list.specs.Pages.{shown, items_of};
 
     ghost Value = { Book };
 
     ghost view = { λ p. record { lines = shown p.lines.items; split_off = reverse (items_of p.split_off.items) } };
+
+    ghost invariant = { λ p. p.numbers.numbers ≡ map number_of (items_of p.split_off.items) };
+}
+
+/// For how many more numbers of places room is made where there are so many.
+fn more_for(places: usize) -> usize
+    ensures some { 0 < result }
+{
+    if places == 0 { FEW } else { 1 }
 }
 
 impl Page {
@@ -45,6 +63,7 @@ impl Page {
         Ok(Page {
             lines,
             split_off: Vec::new(alloc),
+            numbers: Places::new(alloc),
         })
     }
 
@@ -91,10 +110,13 @@ impl Page {
         are_neighbours(&self.lines, left, right)
     }
 
-    /// Whether the place was never split off.
+    /// Whether the place was never split off: mostly none has its number.
     fn is_unused(&self, place: &[usize]) -> bool
         ensures unused { result ≡ is_unused place.now self.now.split_off }
     {
+        if self.numbers.newest(number_of(place)) == 0 {
+            return true;
+        }
         is_unused(&self.split_off, place)
     }
 
@@ -122,9 +144,11 @@ impl Page {
     {
         let place = Vec::from_slice(alloc, new)?;
         let noted = Vec::from_slice(alloc, new)?;
+        self.numbers.reserve(more_for(self.split_off.len()))?;
         self.split_off.reserve(1)?;
         put_behind(&mut self.lines, victim, place, thief)?;
         self.split_off.push_reserved(noted);
+        self.numbers.push(number_of(new));
         Ok(())
     }
 
