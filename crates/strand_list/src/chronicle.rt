@@ -1,7 +1,7 @@
 //! The list of strands that stands, with the history that made it.
 ghost use Rattle.std.specs.Prelude.{◌≡◌, IfOk};
 ghost use Rattle.numbered_runs.specs.Named.{book_step};
-ghost use Rattle.meaning.specs.Strands.{Split, Fold};
+ghost use Rattle.meaning.specs.Strands.{Split};
 
 use crate::error::BookError;
 use crate::laid_state::{LaidState, noted};
@@ -19,29 +19,14 @@ pub struct Chronicle {
 /// The step by which a thief goes on with a part of a strand.
 fn split_of(
     alloc: Global,
-    victim: &[usize],
+    victim: Place,
     new: &[usize],
     thief: usize,
 ) -> Result<BookStep, AllocError>
-    ensures step { IfOk result (λ s. book_step s ≡ Split victim.now new.now thief) }
+    ensures step { IfOk result (λ s. book_step s ≡ Split victim.items new.now thief) }
 {
-    let from = Vec::from_slice(alloc, victim)?;
     let to = Vec::from_slice(alloc, new)?;
-    Ok(BookStep::Split(from, to, thief))
-}
-
-/// The step by which two strands become one.
-fn fold_of(
-    alloc: Global,
-    left: &[usize],
-    right: &[usize],
-    worker: usize,
-) -> Result<BookStep, AllocError>
-    ensures step { IfOk result (λ s. book_step s ≡ Fold left.now right.now worker) }
-{
-    let into = Vec::from_slice(alloc, left)?;
-    let from = Vec::from_slice(alloc, right)?;
-    Ok(BookStep::Fold(into, from, worker))
+    Ok(BookStep::Split(victim, to, thief))
 }
 
 impl Chronicle {
@@ -50,6 +35,7 @@ impl Chronicle {
     ghost use Rattle.numbered_runs.specs.Named.{book_step};
     ghost use Rattle.strand_list.specs.Pages.{shown, position, has_strand, are_neighbours, Apart};
     ghost use Rattle.strand_list.specs.Laying.{laying_step};
+    ghost use Rattle.strand_list.specs.Steps.{is_allowed_fold};
     ghost use Rattle.strand_list.specs.Chronicled.{Took, Notes, IsRefusedBy, first_chronicle, unless_allowed, split_refusal, laying_refusal};
     ghost use Rattle.strand_list.specs.Chronicles.{told};
 
@@ -141,16 +127,16 @@ impl Chronicle {
     pub fn split(
         &mut self,
         alloc: Global,
-        victim: &[usize],
+        victim: Place,
         new: &[usize],
         thief: usize,
     ) -> Result<(), BookError>
         requires apart { Apart self.old.page.lines }
-        ensures taken { OnOk result (Took (told self.old) (Split victim.now new.now thief) (told self.new)) }
-        ensures refused { IfErr result (IsRefusedBy (split_refusal self.old.page victim.now new.now thief)) }
+        ensures taken { OnOk result (Took (told self.old) (Split victim.items new.now thief) (told self.new)) }
+        ensures refused { IfErr result (IsRefusedBy (split_refusal self.old.page victim.items new.now thief)) }
         ensures same { OnErr result (told self.new ≡ told self.old) }
     {
-        if !self.page.has_strand(victim) {
+        if !self.page.has_strand(&victim) {
             return Err(BookError::NoStrand);
         }
         match split_of(alloc, victim, new, thief) {
@@ -160,59 +146,51 @@ impl Chronicle {
     }
 
     /// The strand of that place is laid down so.
-    pub fn lay(&mut self, alloc: Global, state: LaidState, place: &[usize]) -> Result<(), BookError>
+    pub fn lay(&mut self, alloc: Global, state: LaidState, place: Place) -> Result<(), BookError>
         requires apart { Apart self.old.page.lines }
-        ensures taken { OnOk result (Took (told self.old) (laying_step state place.now) (told self.new)) }
-        ensures refused { IfErr result (IsRefusedBy (laying_refusal self.old.page state place.now)) }
+        ensures taken { OnOk result (Took (told self.old) (laying_step state place.items) (told self.new)) }
+        ensures refused { IfErr result (IsRefusedBy (laying_refusal self.old.page state place.items)) }
         ensures same { OnErr result (told self.new ≡ told self.old) }
     {
-        if !self.page.has_strand(place) {
+        if !self.page.has_strand(&place) {
             return Err(BookError::NoStrand);
         }
-        if !self.page.is_held_at(place) {
+        if !self.page.is_held_at(&place) {
             return Err(BookError::AlreadyLaid);
         }
-        match Vec::from_slice(alloc, place) {
-            Ok(place) => self.take(alloc, noted(state, place)),
-            Err(AllocError) => Err(BookError::NoMemory),
-        }
+        self.take(alloc, noted(state, place))
     }
 
     /// Makes room for the step by which two neighbours become one strand, which the worker holds. The list stays.
     pub fn prepare_fold(
         &mut self,
-        alloc: Global,
-        left: &[usize],
-        right: &[usize],
+        left: Place,
+        right: Place,
         worker: usize,
     ) -> Result<BookStep, BookError>
-        ensures step { IfOk result (λ s. book_step s ≡ Fold left.now right.now worker) }
-        ensures may { OnOk result ((may_fold self.old.page.lines left.now right.now && is_free self.old.page.lines worker) ≡ true) }
+        ensures step { IfOk result (λ s. book_step s ≡ Fold left.items right.items worker) }
+        ensures may { OnOk result ((may_fold self.old.page.lines left.items right.items && is_free self.old.page.lines worker) ≡ true) }
         ensures room { OnOk result (vec_len self.new.history < vec_capacity self.new.history) }
-        ensures refused { IfErr result (IsRefusedBy (unless_allowed (stepped self.old.page (Fold left.now right.now worker)))) }
+        ensures refused { IfErr result (IsRefusedBy (unless_allowed (stepped self.old.page (Fold left.items right.items worker)))) }
         ensures same { told self.new ≡ told self.old }
     {
-        if !self.page.may_fold(left, right, worker) {
+        if !self.page.may_fold(&left, &right, worker) {
             return Err(BookError::NotThere);
         }
         if self.history.reserve(1).is_err() {
             return Err(BookError::NoMemory);
         }
-        match fold_of(alloc, left, right, worker) {
-            Ok(step) => Ok(step),
-            Err(AllocError) => Err(BookError::NoMemory),
-        }
+        Ok(BookStep::Fold(left, right, worker))
     }
 
     /// Two neighbours become one strand, which the worker holds, by a step that was prepared. It takes no memory.
-    pub fn fold(&mut self, step: BookStep, left: &[usize], right: &[usize], worker: usize)
+    pub fn fold(&mut self, step: BookStep)
         requires apart { Apart self.old.page.lines }
-        requires step { book_step step ≡ Fold left.now right.now worker }
-        requires may { (may_fold self.old.page.lines left.now right.now && is_free self.old.page.lines worker) ≡ true }
+        requires may { is_allowed_fold self.old.page (book_step step) ≡ true }
         requires room { vec_len self.old.history < vec_capacity self.old.history }
-        ensures taken { Took (told self.old) (Fold left.now right.now worker) (told self.new) }
+        ensures taken { Took (told self.old) (book_step step) (told self.new) }
     {
-        let _ = self.page.fold(left, right, worker);
+        self.page.take_fold(&step);
         self.history.push_reserved(step);
     }
 }

@@ -44,12 +44,12 @@ fn more_for(places: usize) -> usize
 }
 
 impl Page {
-    ghost use Rattle.std.specs.Prelude.{◌≡◌, ◌<◌, ◌&&◌, ◌∷◌, length, MatchOption, IfOk, OnOk, OnErr};
+    ghost use Rattle.std.specs.Prelude.{◌≡◌, ◌<◌, ◌&&◌, ◌∷◌, true, length, MatchOption, IfOk, OnOk, OnErr};
     ghost use Rattle.meaning.specs.Strands.{Held, Split, Fold, first_book, is_free, is_held_at, may_fold, splits};
     ghost use Rattle.numbered_runs.specs.Named.{book_step};
     ghost use Rattle.strand_list.specs.Pages.{shown, position, is_unused, has_strand, are_neighbours, Apart};
     ghost use Rattle.strand_list.specs.Laying.{laying_step, may_lay};
-    ghost use Rattle.strand_list.specs.Steps.{Takes, may_split};
+    ghost use Rattle.strand_list.specs.Steps.{Takes, is_allowed_fold, may_split};
 
     /// The first strand, held by worker 0.
     pub fn first(alloc: Global) -> Result<Page, AllocError>
@@ -201,7 +201,7 @@ impl Page {
     }
 
     /// Two neighbours are one strand, which the worker holds, where that is allowed.
-    pub fn fold(&mut self, left: &[usize], right: &[usize], worker: usize) -> bool
+    fn fold(&mut self, left: &[usize], right: &[usize], worker: usize) -> bool
         requires apart { Apart self.old.lines }
         ensures taken { Takes self.old (Fold left.now right.now worker) result self.new }
     {
@@ -211,6 +211,20 @@ impl Page {
         take_out(&mut self.lines, right);
         set_state(&mut self.lines, left, State::Held(worker));
         true
+    }
+
+    /// Two neighbours are one strand by a step that is allowed.
+    pub fn take_fold(&mut self, step: &BookStep)
+        requires apart { Apart self.old.lines }
+        requires may { is_allowed_fold self.old (book_step step.now) ≡ true }
+        ensures taken { Takes self.old (book_step step.now) true self.new }
+    {
+        match step {
+            BookStep::Fold(left, right, worker) => {
+                let _ = self.fold(left, right, *worker);
+            }
+            _ => unreachable!(),
+        }
     }
 
     /// A step is taken, where it is allowed.

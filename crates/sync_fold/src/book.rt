@@ -111,15 +111,15 @@ impl<J: Run, V: View> Book<J, V> {
     pub fn split(
         &mut self,
         alloc: Global,
-        victim: &[usize],
+        victim: Place,
         new: &[usize],
         thief: usize,
     ) -> Result<(), Refusal>
         ensures taken { OnOk result
-            (Took self.old.chronicle (Split victim.now new.now thief) self.new.chronicle) }
+            (Took self.old.chronicle (Split victim.items new.now thief) self.new.chronicle) }
         ensures counted { OnOk result (HoldsMore self.old.laid self.new.laid) }
         ensures refused { IfErr result
-            (IsRefusedBy (split_refusal self.old.chronicle.page victim.now new.now thief)) }
+            (IsRefusedBy (split_refusal self.old.chronicle.page victim.items new.now thief)) }
         ensures same { OnErr result (self.new ≡ self.old) }
     {
         // What the type keeps: so a refusal is one that a call of a book gives.
@@ -149,7 +149,7 @@ impl<J: Run, V: View> Book<J, V> {
         // What the type keeps: so a refusal is one that a call of a book gives.
         self.upheld();
         match self.place_held(alloc, victim) {
-            Ok(from) => self.split(alloc, &from, new, thief),
+            Ok(from) => self.split(alloc, from, new, thief),
             Err(error) => Err(Refusal::of(error)),
         }
     }
@@ -174,18 +174,18 @@ impl<J: Run, V: View> Book<J, V> {
     fn try_split(
         &mut self,
         alloc: Global,
-        victim: &[usize],
+        victim: Place,
         new: &[usize],
         thief: usize,
     ) -> Result<(), BookError>
         ensures taken { OnOk result
-            (Took self.old.chronicle (Split victim.now new.now thief) self.new.chronicle) }
+            (Took self.old.chronicle (Split victim.items new.now thief) self.new.chronicle) }
         ensures counted { OnOk result (HoldsMore self.old.laid self.new.laid) }
         ensures refused { IfErr result
-            (IsRefusedBy (split_refusal self.old.chronicle.page victim.now new.now thief)) }
+            (IsRefusedBy (split_refusal self.old.chronicle.page victim.items new.now thief)) }
         ensures same { OnErr result (self.new ≡ self.old) }
     {
-        match self.chronicle.find(victim) {
+        match self.chronicle.find(&victim) {
             Some(k) => self.split_at(alloc, k, victim, new, thief),
             None => Err(BookError::NoStrand),
         }
@@ -196,17 +196,17 @@ impl<J: Run, V: View> Book<J, V> {
         &mut self,
         alloc: Global,
         k: usize,
-        victim: &[usize],
+        victim: Place,
         new: &[usize],
         thief: usize,
     ) -> Result<(), BookError>
-        requires here { k ≡ position victim.now self.old.chronicle.page.lines }
+        requires here { k ≡ position victim.items self.old.chronicle.page.lines }
         requires within { k < length self.old.chronicle.page.lines }
         ensures taken { OnOk result
-            (Took self.old.chronicle (Split victim.now new.now thief) self.new.chronicle) }
+            (Took self.old.chronicle (Split victim.items new.now thief) self.new.chronicle) }
         ensures counted { OnOk result (HoldsMore self.old.laid self.new.laid) }
         ensures refused { IfErr result
-            (IsRefusedBy (split_refusal self.old.chronicle.page victim.now new.now thief)) }
+            (IsRefusedBy (split_refusal self.old.chronicle.page victim.items new.now thief)) }
         ensures same { OnErr result (self.new ≡ self.old) }
     {
         if put_behind(&mut self.laid, k).is_err() {
@@ -251,7 +251,7 @@ impl<J: Run, V: View> Book<J, V> {
         ensures back { IfErr result (λ e. e.1 ≡ piece) }
     {
         match piece.begins_behind(alloc) {
-            Ok(place) => self.lay_at(alloc, &place, piece),
+            Ok(place) => self.lay_at(alloc, place, piece),
             Err(AllocError) => Err((BookError::NoMemory, piece)),
         }
     }
@@ -260,19 +260,19 @@ impl<J: Run, V: View> Book<J, V> {
     fn lay_at(
         &mut self,
         alloc: Global,
-        place: &[usize],
+        place: Place,
         piece: Piece<J, V>,
     ) -> Result<(), (BookError, Piece<J, V>)>
-        requires place { place.now ≡ begins_at piece }
+        requires place { place.items ≡ begins_at piece }
         ensures taken { OnOk result
-            (Took self.old.chronicle (laying_step piece.state place.now) self.new.chronicle) }
+            (Took self.old.chronicle (laying_step piece.state place.items) self.new.chronicle) }
         ensures counted { OnOk result (LaysDown piece.strand self.old.laid self.new.laid) }
         ensures refused { IfErr result
-            (λ e. IsRefusedBy (laying_refusal self.old.chronicle.page piece.state place.now) e.0) }
+            (λ e. IsRefusedBy (laying_refusal self.old.chronicle.page piece.state place.items) e.0) }
         ensures same { OnErr result (self.new ≡ self.old) }
         ensures back { IfErr result (λ e. e.1 ≡ piece) }
     {
-        let k = match self.chronicle.find(place) {
+        let k = match self.chronicle.find(&place) {
             Some(k) => k,
             None => return Err((BookError::NoStrand, piece)),
         };
@@ -301,22 +301,22 @@ impl<J: Run, V: View> Book<J, V> {
         &mut self,
         alloc: Global,
         scene: &Scene<'_, J>,
-        left: &[usize],
-        right: &[usize],
+        left: Place,
+        right: Place,
         worker: usize,
     ) -> Result<(Box<RightStrand<J, V>>, Kit<V>), Refusal>
         ensures taken { OnOk result
-            (Took self.old.chronicle (Fold left.now right.now worker) self.new.chronicle) }
+            (Took self.old.chronicle (Fold left.items right.items worker) self.new.chronicle) }
         ensures joined { IfOk result
-            (λ r. BecomeOne self.old left.now r.0.value.strand) }
+            (λ r. BecomeOne self.old left.items r.0.value.strand) }
         ensures going { IfOk result (λ r. r.0.value.failed ≡ false) }
         ensures kit { IfOk result (λ r. r.1 ≡ J.setting.kinds) }
         ensures counted { IfOk result (λ r. TakesUp r.0.value.strand self.old.laid self.new.laid) }
         ensures refused { IfErr result
-            (IsRefusedBy (fold_refusal self.old left.now right.now worker)) }
+            (IsRefusedBy (fold_refusal self.old left.items right.items worker)) }
         ensures same { OnErr result (self.new.chronicle ≡ self.old.chronicle) }
         ensures kept { IfErr result
-            (λ e. KeepsStrands self.old left.now e self.new) }
+            (λ e. KeepsStrands self.old left.items e self.new) }
     {
         // What the type keeps: so a refusal is one that a call of a book gives.
         self.upheld();
@@ -331,27 +331,27 @@ impl<J: Run, V: View> Book<J, V> {
         &mut self,
         alloc: Global,
         scene: &Scene<'_, J>,
-        left: &[usize],
-        right: &[usize],
+        left: Place,
+        right: Place,
         worker: usize,
     ) -> Result<(Box<RightStrand<J, V>>, Kit<V>), BookError>
         ensures taken { OnOk result
-            (Took self.old.chronicle (Fold left.now right.now worker) self.new.chronicle) }
+            (Took self.old.chronicle (Fold left.items right.items worker) self.new.chronicle) }
         ensures joined { IfOk result
-            (λ r. BecomeOne self.old left.now r.0.value.strand) }
+            (λ r. BecomeOne self.old left.items r.0.value.strand) }
         ensures going { IfOk result (λ r. r.0.value.failed ≡ false) }
         ensures kit { IfOk result (λ r. r.1 ≡ J.setting.kinds) }
         ensures counted { IfOk result (λ r. TakesUp r.0.value.strand self.old.laid self.new.laid) }
         ensures refused { IfErr result
-            (IsRefusedBy (fold_refusal self.old left.now right.now worker)) }
+            (IsRefusedBy (fold_refusal self.old left.items right.items worker)) }
         ensures same { OnErr result (self.new.chronicle ≡ self.old.chronicle) }
         ensures kept { IfErr result
-            (λ e. KeepsStrands self.old left.now e self.new) }
+            (λ e. KeepsStrands self.old left.items e self.new) }
     {
-        if !self.chronicle.has_both(left, right) {
+        if !self.chronicle.has_both(&left, &right) {
             return Err(BookError::NoStrand);
         }
-        if !self.may_touch(left, right) {
+        if !self.may_touch(&left, &right) {
             return Err(BookError::NotNeighbour);
         }
         self.fold_at(alloc, scene, left, right, worker)
@@ -362,26 +362,26 @@ impl<J: Run, V: View> Book<J, V> {
         &mut self,
         alloc: Global,
         scene: &Scene<'_, J>,
-        left: &[usize],
-        right: &[usize],
+        left: Place,
+        right: Place,
         worker: usize,
     ) -> Result<(Box<RightStrand<J, V>>, Kit<V>), BookError>
-        requires touch { touch self.old left.now right.now ≡ true }
+        requires touch { touch self.old left.items right.items ≡ true }
         ensures taken { OnOk result
-            (Took self.old.chronicle (Fold left.now right.now worker) self.new.chronicle) }
+            (Took self.old.chronicle (Fold left.items right.items worker) self.new.chronicle) }
         ensures joined { IfOk result
-            (λ r. BecomeOne self.old left.now r.0.value.strand) }
+            (λ r. BecomeOne self.old left.items r.0.value.strand) }
         ensures going { IfOk result (λ r. r.0.value.failed ≡ false) }
         ensures kit { IfOk result (λ r. r.1 ≡ J.setting.kinds) }
         ensures counted { IfOk result (λ r. TakesUp r.0.value.strand self.old.laid self.new.laid) }
         ensures refused { IfErr result
-            (IsRefusedBy (unless_allowed (stepped self.old.chronicle.page (Fold left.now right.now worker)))) }
+            (IsRefusedBy (unless_allowed (stepped self.old.chronicle.page (Fold left.items right.items worker)))) }
         ensures same { OnErr result (self.new.chronicle ≡ self.old.chronicle) }
         ensures kept { IfErr result
-            (λ e. KeepsStrands self.old left.now e self.new) }
+            (λ e. KeepsStrands self.old left.items e self.new) }
     {
         match Room::new(alloc) {
-            Ok(room) => self.fold_in(room, alloc, scene, left, right, worker),
+            Ok(room) => self.fold_in(room, scene, left, right, worker),
             Err(AllocError) => Err(BookError::NoMemory),
         }
     }
@@ -390,38 +390,37 @@ impl<J: Run, V: View> Book<J, V> {
     fn fold_in(
         &mut self,
         room: Room<V>,
-        alloc: Global,
         scene: &Scene<'_, J>,
-        left: &[usize],
-        right: &[usize],
+        left: Place,
+        right: Place,
         worker: usize,
     ) -> Result<(Box<RightStrand<J, V>>, Kit<V>), BookError>
         requires none { room ≡ [] }
-        requires touch { touch self.old left.now right.now ≡ true }
+        requires touch { touch self.old left.items right.items ≡ true }
         ensures taken { OnOk result
-            (Took self.old.chronicle (Fold left.now right.now worker) self.new.chronicle) }
+            (Took self.old.chronicle (Fold left.items right.items worker) self.new.chronicle) }
         ensures joined { IfOk result
-            (λ r. BecomeOne self.old left.now r.0.value.strand) }
+            (λ r. BecomeOne self.old left.items r.0.value.strand) }
         ensures going { IfOk result (λ r. r.0.value.failed ≡ false) }
         ensures kit { IfOk result (λ r. r.1 ≡ J.setting.kinds) }
         ensures counted { IfOk result (λ r. TakesUp r.0.value.strand self.old.laid self.new.laid) }
         ensures refused { IfErr result
-            (IsRefusedBy (unless_allowed (stepped self.old.chronicle.page (Fold left.now right.now worker)))) }
+            (IsRefusedBy (unless_allowed (stepped self.old.chronicle.page (Fold left.items right.items worker)))) }
         ensures same { OnErr result (self.new.chronicle ≡ self.old.chronicle) }
         ensures kept { IfErr result
-            (λ e. KeepsStrands self.old left.now e self.new) }
+            (λ e. KeepsStrands self.old left.items e self.new) }
     {
-        let k = match self.chronicle.find(left) {
+        let k = match self.chronicle.find(&left) {
             Some(k) => k,
             None => return Err(BookError::NoStrand),
         };
-        let step = match self.chronicle.prepare_fold(alloc, left, right, worker) {
+        let step = match self.chronicle.prepare_fold(left, right, worker) {
             Ok(step) => step,
             Err(error) => return Err(error),
         };
         match fold_kept(scene, &mut self.laid, k, room) {
             Ok(joined) => {
-                self.chronicle.fold(step, left, right, worker);
+                self.chronicle.fold(step);
                 Ok(joined)
             }
             Err(AllocError) => {
@@ -476,7 +475,7 @@ impl<J: Run, V: View> Book<J, V> {
         // What the type keeps: so the first two that may be folded lie beside each other.
         self.upheld();
         match places_at(alloc, self.chronicle.strands(), k) {
-            Ok((left, right)) => self.fold_found(alloc, scene, &left, &right, worker),
+            Ok((left, right)) => self.fold_found(alloc, scene, left, right, worker),
             Err(AllocError) => Err(Refusal::without_memory()),
         }
     }
@@ -487,23 +486,23 @@ impl<J: Run, V: View> Book<J, V> {
         &mut self,
         alloc: Global,
         scene: &Scene<'_, J>,
-        left: &[usize],
-        right: &[usize],
+        left: Place,
+        right: Place,
         worker: usize,
     ) -> Result<(Box<RightStrand<J, V>>, Kit<V>), Refusal>
-        requires touch { touch self.old left.now right.now ≡ true }
+        requires touch { touch self.old left.items right.items ≡ true }
         ensures taken { OnOk result
-            (Took self.old.chronicle (Fold left.now right.now worker) self.new.chronicle) }
+            (Took self.old.chronicle (Fold left.items right.items worker) self.new.chronicle) }
         ensures joined { IfOk result
-            (λ r. BecomeOne self.old left.now r.0.value.strand) }
+            (λ r. BecomeOne self.old left.items r.0.value.strand) }
         ensures going { IfOk result (λ r. r.0.value.failed ≡ false) }
         ensures kit { IfOk result (λ r. r.1 ≡ J.setting.kinds) }
         ensures counted { IfOk result (λ r. TakesUp r.0.value.strand self.old.laid self.new.laid) }
         ensures refused { IfErr result
-            (IsRefusedBy (fold_refusal self.old left.now right.now worker)) }
+            (IsRefusedBy (fold_refusal self.old left.items right.items worker)) }
         ensures same { OnErr result (self.new.chronicle ≡ self.old.chronicle) }
         ensures kept { IfErr result
-            (λ e. KeepsStrands self.old left.now e self.new) }
+            (λ e. KeepsStrands self.old left.items e self.new) }
     {
         // What the type keeps: so a refusal is one that a call of a book gives.
         self.upheld();

@@ -1,8 +1,6 @@
-use Rattle.std.proofs.Common.{◌≡◌, inl, suc, true, get_or, IfErr, OnOk, Some, refl, sym, ap, ◌∙◌, subst}
-use Rattle.meaning.specs.Strands.{Fold}
-use Rattle.meaning.specs.Outcome.{Place}
-use Rattle.strand_list.specs.Chronicled.{IsRefusedBy, Took}
-use Rattle.sync_fold.specs.Books.{KeepsStrands, PlainBook, first_fold, fold_refusal, touch}
+use Rattle.std.proofs.Common.{inl, suc, get_or, Some, refl, sym, ap, ◌∙◌, subst}
+use Rattle.strand_list.specs.Chronicled.{IsRefusedBy}
+use Rattle.sync_fold.specs.Books.{KeepsStrands, PlainBook, first_fold, fold_refusal}
 use Rattle.sync_fold.specs.Refusals.{is_apart}
 use Rattle.sync_fold.proofs.Refusals.{first_near, first_touches}
 use Rattle.strand_list.specs.Pages.{shown}
@@ -20,28 +18,24 @@ fold_found-requires-clause-touch g c κs h =
     let b = c.args.self.now in
     let first = first_is c.args.k b.chronicle.page.lines (shown c.strands.result.now) (first_fold b) (Some (c.in-Ok.left.items, c.in-Ok.right.items)) c.requires.first c.in-Ok.ensures.places
     (c.strands.ensures.lines ∙ ap (λ (b : PlainBook). b.chronicle.page.lines) c.self.view_is) in
-    subst (λ (l : Place). touch b l c.deref-in-Ok.result.now ≡ true) (sym c.deref.ensures.value)
-    (subst (λ (r : Place). touch b c.in-Ok.left.items r ≡ true) (sym c.deref-in-Ok.ensures.value)
-    (first_touches b c.in-Ok.left.items c.in-Ok.right.items c.upheld.ensures.book first))
+    first_touches b c.in-Ok.left.items c.in-Ok.right.items c.upheld.ensures.book first
 
 pub returns-in-Ok : goal.returns-in-Ok
 returns-in-Ok g c =
     let b = c.args.self.now in
     let first = first_is c.args.k b.chronicle.page.lines (shown c.strands.result.now) (first_fold b) (Some (c.in-Ok.left.items, c.in-Ok.right.items)) c.requires.first c.in-Ok.ensures.places
     (c.strands.ensures.lines ∙ ap (λ (b : PlainBook). b.chronicle.page.lines) c.self.view_is) in
-    let refused = subst (λ (l : Place). IfErr c.fold_found.result (IsRefusedBy (fold_refusal b l c.in-Ok.right.items c.args.worker))) c.deref.ensures.value
-    (subst (λ (r : Place). IfErr c.fold_found.result (IsRefusedBy (fold_refusal b c.deref.result.now r c.args.worker))) c.deref-in-Ok.ensures.value c.fold_found.ensures.refused) in
+    let refused = c.fold_found.ensures.refused in
     record {
       folded = record {
         left = c.in-Ok.left.items;
         right = c.in-Ok.right.items;
         first = first;
         refused = refused;
-        taken = subst (λ (l : Place). OnOk c.fold_found.result (Took b.chronicle (Fold l c.in-Ok.right.items c.args.worker) c.fold_found.new.self.chronicle)) c.deref.ensures.value
-            (subst (λ (r : Place). OnOk c.fold_found.result (Took b.chronicle (Fold c.deref.result.now r c.args.worker) c.fold_found.new.self.chronicle)) c.deref-in-Ok.ensures.value c.fold_found.ensures.taken);
+        taken = c.fold_found.ensures.taken;
       };
-      joined = first_become b c.in-Ok.left.items c.in-Ok.right.items c.deref.result.now first c.deref.ensures.value c.fold_found.result (λ r. r.0.value.strand) c.fold_found.ensures.joined;
-      kept = first_stay b c.fold_found.new.self c.in-Ok.left.items c.in-Ok.right.items c.deref.result.now first c.deref.ensures.value c.fold_found.result c.fold_found.ensures.kept;
+      joined = first_become b c.in-Ok.left.items c.in-Ok.right.items c.in-Ok.left.items first refl c.fold_found.result (λ r. r.0.value.strand) c.fold_found.ensures.joined;
+      kept = first_stay b c.fold_found.new.self c.in-Ok.left.items c.in-Ok.right.items c.in-Ok.left.items first refl c.fold_found.result c.fold_found.ensures.kept;
       going = c.fold_found.ensures.going;
       kit = c.fold_found.ensures.kit;
       counted = c.fold_found.ensures.counted;

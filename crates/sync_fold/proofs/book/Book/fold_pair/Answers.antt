@@ -6,7 +6,7 @@ use Rattle.sync_fold.proofs.Refusals.{given}
 use Rattle.sync_fold.proofs.book.Book.fold_pair.Goals as goal
 
 pub of-requires : goal.of-requires
-of-requires g c = record { given = given c.args.self.now c.upheld.ensures.book (Folds c.args.left.now c.args.right.now c.args.worker) c.in-Err.error c.in-Err.ensures.refused }
+of-requires g c = record { given = given c.args.self.now c.upheld.ensures.book (Folds c.args.left.items c.args.right.items c.args.worker) c.in-Err.error c.in-Err.ensures.refused }
 
 pub returns-in-Err : goal.returns-in-Err
 returns-in-Err g c = record {
@@ -15,7 +15,7 @@ returns-in-Err g c = record {
   going = tt;
   kit = tt;
   counted = tt;
-  refused = subst (IsRefusedBy (fold_refusal c.args.self.now c.args.left.now c.args.right.now c.args.worker)) (sym c.of.ensures.error) c.in-Err.ensures.refused;
+  refused = subst (IsRefusedBy (fold_refusal c.args.self.now c.args.left.items c.args.right.items c.args.worker)) (sym c.of.ensures.error) c.in-Err.ensures.refused;
   same = c.in-Err.ensures.same;
-  kept = subst (λ e. KeepsStrands c.args.self.now c.args.left.now e c.try_fold_pair.new.self) (sym c.of.ensures.error) c.in-Err.ensures.kept;
+  kept = subst (λ e. KeepsStrands c.args.self.now c.args.left.items e c.try_fold_pair.new.self) (sym c.of.ensures.error) c.in-Err.ensures.kept;
 }

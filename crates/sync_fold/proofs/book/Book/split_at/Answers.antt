@@ -28,9 +28,9 @@ take_behind-requires g c =
 pub invariant_of-self-in-Ok : goal.invariant_of-self-in-Ok
 invariant_of-self-in-Ok g c =
     let put : c.put_behind.new.laid.items ≡ insert c.self.inside.laid.items (c.args.k + 1) Nothing = search rules in
-    let here = subst (λ (b : PlainBook). c.args.k ≡ position c.args.victim.now b.chronicle.page.lines) (sym c.self.view_is) c.requires.here in
+    let here = subst (λ (b : PlainBook). c.args.k ≡ position c.args.victim.items b.chronicle.page.lines) (sym c.self.view_is) c.requires.here in
     let within = subst (λ (b : PlainBook). c.args.k < length b.chronicle.page.lines) (sym c.self.view_is) c.requires.within in
-    split_keeps (told c.self.inside.chronicle) (told c.split.new.self) c.self.inside.laid.items c.put_behind.new.laid.items c.args.victim.now c.args.new.now c.args.thief c.args.k c.self.invariant c.in-Ok.ensures.taken here within put
+    split_keeps (told c.self.inside.chronicle) (told c.split.new.self) c.self.inside.laid.items c.put_behind.new.laid.items c.args.victim.items c.args.new.now c.args.thief c.args.k c.self.invariant c.in-Ok.ensures.taken here within put
 
 pub invariant_of-self-in-Err : goal.invariant_of-self-in-Err
 invariant_of-self-in-Err g c =
@@ -53,7 +53,7 @@ returns-in-Err g c =
     record {
       taken = tt;
       counted = tt;
-      refused = subst (λ (b : PlainBook). IsRefusedBy (split_refusal b.chronicle.page c.args.victim.now c.args.new.now c.args.thief) c.in-Err.error) c.self.view_is c.in-Err.ensures.refused;
+      refused = subst (λ (b : PlainBook). IsRefusedBy (split_refusal b.chronicle.page c.args.victim.items c.args.new.now c.args.thief) c.in-Err.error) c.self.view_is c.in-Err.ensures.refused;
       same = ap (λ (x : PlainChronicle). book_of x c.take_behind.new.laid.items) c.in-Err.ensures.same ∙ ap (λ (ds : List PlainLaid). book_of (told c.self.inside.chronicle) ds) same ∙ c.self.view_is;
     }
 
@@ -61,7 +61,7 @@ pub returns-in-Ok : goal.returns-in-Ok
 returns-in-Ok g c =
     let put : c.put_behind.new.laid.items ≡ insert c.self.inside.laid.items (c.args.k + 1) Nothing = search rules in
     record {
-      taken = subst (λ (b : PlainBook). Took b.chronicle (Split c.args.victim.now c.args.new.now c.args.thief) (told c.split.new.self)) c.self.view_is c.in-Ok.ensures.taken;
+      taken = subst (λ (b : PlainBook). Took b.chronicle (Split c.args.victim.items c.args.new.now c.args.thief) (told c.split.new.self)) c.self.view_is c.in-Ok.ensures.taken;
       counted = subst (λ (b : PlainBook). HoldsMore b.laid c.put_behind.new.laid.items) c.self.view_is (split_counts (c.args.k + 1) c.self.inside.laid.items c.put_behind.new.laid.items put);
       refused = tt;
       same = tt;

@@ -1,7 +1,5 @@
-use Rattle.std.proofs.Common.{◌≡◌, false, IfErr, OnOk, refl, sym, subst}
-use Rattle.meaning.specs.Outcome.{Place}
-use Rattle.meaning.specs.Strands.{Split}
-use Rattle.strand_list.specs.Chronicled.{IsRefusedBy, Took, split_refusal}
+use Rattle.std.proofs.Common.{◌≡◌, false, refl, sym, subst}
+use Rattle.strand_list.specs.Chronicled.{IsRefusedBy}
 use Rattle.sync_fold.specs.Refusals.{SplitsHeld, held_refusal, is_apart}
 use Rattle.sync_fold.proofs.Refusals.{given, none_held, held_refused, held_near, held_all_near, took_held}
 use Rattle.sync_fold.proofs.book.Book.split_held.Goals as goal
@@ -29,11 +27,9 @@ returns-in-Err g c =
 pub returns-in-Ok : goal.returns-in-Ok
 returns-in-Ok g c =
     let b = c.args.self.now in
-    let refused = held_refused b.chronicle.page c.args.victim c.in-Ok.from.items c.args.new.now c.args.thief c.split.result c.in-Ok.ensures.held
-    (subst (λ (from : Place). IfErr c.split.result (IsRefusedBy (split_refusal b.chronicle.page from c.args.new.now c.args.thief))) c.deref.ensures.value c.split.ensures.refused) in
+    let refused = held_refused b.chronicle.page c.args.victim c.in-Ok.from.items c.args.new.now c.args.thief c.split.result c.in-Ok.ensures.held c.split.ensures.refused in
     record {
-      taken = took_held b.chronicle c.split.new.self.chronicle c.args.victim c.in-Ok.from.items c.args.new.now c.args.thief c.split.result c.in-Ok.ensures.held
-          (subst (λ (from : Place). OnOk c.split.result (Took b.chronicle (Split from c.args.new.now c.args.thief) c.split.new.self.chronicle)) c.deref.ensures.value c.split.ensures.taken);
+      taken = took_held b.chronicle c.split.new.self.chronicle c.args.victim c.in-Ok.from.items c.args.new.now c.args.thief c.split.result c.in-Ok.ensures.held c.split.ensures.taken;
       counted = c.split.ensures.counted;
       refused = refused;
       near = held_all_near b.chronicle.page c.args.victim c.args.new.now c.args.thief c.split.result refused;
