@@ -5,4 +5,5 @@ pub mod Opened
 pub mod Batches
 pub mod Replays
 pub mod Levels
+pub mod SoFar
 pub mod Spawns

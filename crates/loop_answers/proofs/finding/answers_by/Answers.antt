@@ -1,10 +1,11 @@
-use Rattle.std.proofs.Common.{rules, to_z, of_z, w64, ◌≡◌, ◌+◌, ◌-◌, ◌≤◌, ◌+ℤ◌, ℤ, pos, List, [], ◌∷◌, ◌++◌, map, IfSome, sym, ap, ◌∙◌, subst, arith}
+use Rattle.std.proofs.Common.{rules, to_z, of_z, w64, ◌≡◌, ◌+◌, ◌-◌, ◌≤◌, ◌+ℤ◌, ℤ, pos, List, [], ◌∷◌, ◌++◌, map, IfSome, refl, sym, ap, ◌∙◌, subst, arith}
 use Rattle.linked_program.specs.CodeView.{expression as plain}
 use Rattle.rerun_records.specs.declared.batch.Batch.{Batch}
 use Rattle.positions.specs.Strands.{PlainStrand}
 use Rattle.activations.specs.Given.{lent, loop_of}
 use Rattle.loop_answers.specs.Batches.{instances_in, AreBatches, IsBatchFrom, AreArguments}
 use Rattle.loop_answers.proofs.Batches.{instances_more, batches_more}
+use Rattle.loop_answers.proofs.SoFar.{has_so_far}
 use Rattle.loop_answers.proofs.finding.answers_by.Goals as goal
 
 pub loop-preserved : goal.loop-preserved
@@ -38,3 +39,55 @@ loop-preserved g c =
       most = omega (arith, less, inv.most);
       batches = subst (λ (bs : List Batch). AreBatches S j s.top.slots s.top.left low first bs) (sym items) more;
     }
+
+pub returns-then-count-most-clause-answers : goal.returns-then-count-most-clause-answers
+returns-then-count-most-clause-answers g c =
+    has_so_far (lent c.args.setting) c.args.turns.site c.args.machine.now.top (loop_of c.args.code) c.args.turns.share.first c.loop.batches.items c.found_so_far.result.batches.items
+    c.requires.code c.in_ok-depth.ensures.memo c.in_ok-depth.ensures.room (rw c.found_so_far.ensures.batches refl) c.loop.invariant.batches
+
+pub returns-then-count-most-clause-count : goal.returns-then-count-most-clause-count
+returns-then-count-most-clause-count g c =
+    let is : c.found_so_far.result.batches.items ≡ c.loop.batches.items = rw c.found_so_far.ensures.batches refl in
+    c.found_so_far.ensures.count ∙ c.loop.invariant.count ∙ sym (ap instances_in is)
+
+pub returns-then-count-most-clause-few : goal.returns-then-count-most-clause-few
+returns-then-count-most-clause-few g c = omega (arith, c.found_so_far.ensures.count, c.loop.invariant.few, c.loop.invariant.most)
+
+pub returns-then-asked-eq0-clause-answers : goal.returns-then-asked-eq0-clause-answers
+returns-then-asked-eq0-clause-answers g c =
+    has_so_far (lent c.args.setting) c.args.turns.site c.args.machine.now.top (loop_of c.args.code) c.args.turns.share.first c.loop.batches.items c.found_so_far-then-asked-eq0.result.batches.items
+    c.requires.code c.in_ok-depth.ensures.memo c.in_ok-depth.ensures.room (rw c.found_so_far-then-asked-eq0.ensures.batches refl) c.loop.invariant.batches
+
+pub returns-then-asked-eq0-clause-count : goal.returns-then-asked-eq0-clause-count
+returns-then-asked-eq0-clause-count g c =
+    let is : c.found_so_far-then-asked-eq0.result.batches.items ≡ c.loop.batches.items = rw c.found_so_far-then-asked-eq0.ensures.batches refl in
+    c.found_so_far-then-asked-eq0.ensures.count ∙ c.loop.invariant.count ∙ sym (ap instances_in is)
+
+pub returns-then-asked-eq0-clause-few : goal.returns-then-asked-eq0-clause-few
+returns-then-asked-eq0-clause-few g c = omega (arith, c.found_so_far-then-asked-eq0.ensures.count, c.loop.invariant.few, c.loop.invariant.most)
+
+pub returns-in-None-clause-answers : goal.returns-in-None-clause-answers
+returns-in-None-clause-answers g c =
+    has_so_far (lent c.args.setting) c.args.turns.site c.args.machine.now.top (loop_of c.args.code) c.args.turns.share.first c.loop.batches.items c.found_so_far-in-None.result.batches.items
+    c.requires.code c.in_ok-depth.ensures.memo c.in_ok-depth.ensures.room (rw c.found_so_far-in-None.ensures.batches refl) c.loop.invariant.batches
+
+pub returns-in-None-clause-count : goal.returns-in-None-clause-count
+returns-in-None-clause-count g c =
+    let is : c.found_so_far-in-None.result.batches.items ≡ c.loop.batches.items = rw c.found_so_far-in-None.ensures.batches refl in
+    c.found_so_far-in-None.ensures.count ∙ c.loop.invariant.count ∙ sym (ap instances_in is)
+
+pub returns-in-None-clause-few : goal.returns-in-None-clause-few
+returns-in-None-clause-few g c = omega (arith, c.found_so_far-in-None.ensures.count, c.loop.invariant.few, c.loop.invariant.most)
+
+pub returns-clause-answers : goal.returns-clause-answers
+returns-clause-answers g c =
+    has_so_far (lent c.args.setting) c.args.turns.site c.args.machine.now.top (loop_of c.args.code) c.args.turns.share.first c.loop.batches.items c.found_so_far-2.result.batches.items
+    c.requires.code c.in_ok-depth.ensures.memo c.in_ok-depth.ensures.room (rw c.found_so_far-2.ensures.batches refl) c.loop.invariant.batches
+
+pub returns-clause-count : goal.returns-clause-count
+returns-clause-count g c =
+    let is : c.found_so_far-2.result.batches.items ≡ c.loop.batches.items = rw c.found_so_far-2.ensures.batches refl in
+    c.found_so_far-2.ensures.count ∙ c.loop.invariant.count ∙ sym (ap instances_in is)
+
+pub returns-clause-few : goal.returns-clause-few
+returns-clause-few g c = omega (arith, c.found_so_far-2.ensures.count, c.loop.invariant.few, c.loop.invariant.most)
