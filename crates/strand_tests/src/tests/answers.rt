@@ -81,15 +81,19 @@ fn sales(rt: &impl Abort, alloc: Global) -> TableRows {
     }
 }
 
+/// The text of an answer of the plain slow program.
+fn text_of(alloc: Global, answer: &Answer<'_>) -> Result<String, AllocError> {
+    match answer {
+        Answer::Finished(value, values) => finished_text(alloc, *value, values),
+        Answer::Faulted(fault) => fault_text(alloc, fault.kind, fault.procedure, fault.statement),
+    }
+}
+
 /// The answer of the plain slow program, on the sales.
 pub fn slow_text(rt: &impl Abort, alloc: Global, program: &Program) -> String {
     let sales = sales(rt, alloc);
-    let text = match from_scratch(alloc, program, &[sales]) {
-        Ok(Answer::Finished(value, values)) => finished_text(alloc, value, &values),
-        Ok(Answer::Faulted(fault)) => {
-            fault_text(alloc, fault.kind, fault.procedure, fault.statement)
-        }
+    match &from_scratch(alloc, program, &[sales]) {
+        Ok(answer) => text_of(alloc, answer).expect(rt, "memory"),
         Err(_) => panic!(rt; "memory"),
-    };
-    text.expect(rt, "memory")
+    }
 }

@@ -118,8 +118,8 @@ fn round<R: Abort + Threads + Sync, D: Deques + Send>(
         { own(owner) },
         move || rob(thief),
     );
-    assert!(rt; pops && steals);
-    assert_eq!(rt; (pushed, popped.wrapping_add(stolen)), (LINKS, LINKS));
+    let taken = popped.wrapping_add(stolen);
+    assert!(rt; pops && steals && pushed == LINKS && taken == LINKS);
     assert!(rt; owner.unbind_if_drained(&mut thief));
     (owner, thief)
 }
@@ -142,15 +142,22 @@ fn each_is_taken_once(rt: HostRuntime) {
     }
 }
 
+/// Whether each owner's end has its number.
+fn are_numbered<D: Deques>(owners: &[OwnerEnd<Link, D>]) -> bool {
+    for number in 0..owners.len() {
+        if owners[number].number() != number {
+            return false;
+        }
+    }
+    true
+}
+
 /// The numbers of the owners' ends of so many deques.
 fn numbers<D: Deques>(rt: &impl Abort, alloc: Global, deques: Vec<NewDeque<Link>>) -> usize
     requires named { D.deques ≡ deques.items }
 {
     let (owners, thieves) = all_ends::<Link, D>(alloc, deques).expect(rt, "memory");
-    for number in 0..owners.len() {
-        assert_eq!(rt; owners[number].number(), number);
-    }
-    assert_eq!(rt; owners.len(), thieves.len());
+    assert!(rt; are_numbered(&owners) && owners.len() == thieves.len());
     owners.len()
 }
 
@@ -160,18 +167,34 @@ fn ends_have_numbers(rt: HostRuntime) {
     assert_eq!(&rt; numbers::<Brand>(&rt, rt.alloc(), deques), 16);
 }
 
-/// A deque isn't drained while it holds something, nor for the thieves' end of another one.
+/// Whether there is something to steal.
+fn steals<D: Deques>(thief: &mut ThiefEnd<Link, D>) -> bool {
+    thief.steal().is_some()
+}
+
+/// Whether a deque isn't drained while it holds something, nor for the thieves' end of another one.
+fn is_drained_in_time<D: Deques>(
+    owner: &mut OwnerEnd<Link, D>,
+    thief: &mut ThiefEnd<Link, D>,
+    stranger: &mut ThiefEnd<Link, D>,
+) -> bool
+    requires fresh { owner.old.here ≡ None }
+{
+    push_at(owner, 0)
+        && !owner.unbind_if_drained(thief)
+        && steals(thief)
+        && !owner.unbind_if_drained(stranger)
+        && owner.unbind_if_drained(thief)
+}
+
+/// So it is with the first of two deques.
 fn drained_in_time<D: Deques>(rt: &impl Abort, first: NewDeque<Link>, second: NewDeque<Link>)
     requires first { slice_get D.deques 0 ≡ Some first }
     requires second { slice_get D.deques 1 ≡ Some second }
 {
     let (mut owner, mut thief) = ends_of::<Link, D>(0, first).expect(rt, "memory");
     let (_other, mut stranger) = ends_of::<Link, D>(1, second).expect(rt, "memory");
-    assert!(rt; push_at(&mut owner, 0));
-    assert!(rt; !owner.unbind_if_drained(&mut thief));
-    assert!(rt; thief.steal().is_some());
-    assert!(rt; !owner.unbind_if_drained(&mut stranger));
-    assert!(rt; owner.unbind_if_drained(&mut thief));
+    assert!(rt; is_drained_in_time(&mut owner, &mut thief, &mut stranger));
 }
 
 #[test]

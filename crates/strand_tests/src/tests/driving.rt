@@ -17,11 +17,13 @@ use view_pool::{Kit, PlainView, Pool};
 /// More small steps than any of the programs takes.
 const STEPS: usize = 2000;
 
-/// A program, and the tables that it runs on.
+/// A program, the tables that it runs on, and the records that may answer it, of which there are none: one function of each test owns them,
+/// since what their dropping takes the prover is paid for each owner.
 #[derive(Clone, Copy)]
 pub struct Input<'a> {
     pub program: &'a Checked,
     pub tables: &'a Tables,
+    pub records: &'a Records,
 }
 
 /// The kits of a strand that has its own: none is free.
@@ -103,14 +105,9 @@ pub fn parent(rt: &impl Abort, alloc: Global, strand: &mut Strand<PlainView>) ->
 }
 
 /// What a strand that does what it can in one go does before its next small step.
-fn go_ahead(
-    alloc: Global,
-    program: &Checked,
-    tables: &Tables,
-    strand: &mut Strand<PlainView>,
-    child: Child,
-)
-    requires kinds { strand.old.layer.kinds ≡ program.now.kinds }
+fn go_ahead(alloc: Global, input: Input<'_>, strand: &mut Strand<PlainView>, child: Child)
+    requires empty { input.records.now ≡ [] }
+    requires kinds { strand.old.layer.kinds ≡ input.program.now.kinds }
     ensures kinds { strand.new.layer.kinds ≡ strand.old.layer.kinds }
     ensures lower { strand.new.lower ≡ strand.old.lower }
 {
@@ -119,8 +116,12 @@ fn go_ahead(
         Child::AllAhead => true,
         _ => return,
     };
-    let records = Records::new(alloc);
-    strand.run_ahead(alloc, program, tables, &records, &mut Spawns { called });
+    let Input {
+        program,
+        tables,
+        records,
+    } = input;
+    strand.run_ahead(alloc, program, tables, records, &mut Spawns { called });
 }
 
 /// At a spawn: the child goes that way.
@@ -162,12 +163,12 @@ fn go_back(strand: &mut Strand<PlainView>, parents: &mut Vec<Task>)
 fn advance(
     rt: &impl Abort,
     alloc: Global,
-    program: &Checked,
-    tables: &Tables,
+    input: Input<'_>,
     strand: &mut Strand<PlainView>,
     pool: &mut Pool<Kit<PlainView>>,
 )
-    requires kinds { strand.old.layer.kinds ≡ program.now.kinds }
+    requires empty { input.records.now ≡ [] }
+    requires kinds { strand.old.layer.kinds ≡ input.program.now.kinds }
     requires lower { strand.old.lower ≡ [] }
     requires none { pool.old.kits ≡ [] }
     requires total { pool.old.total ≡ 1 }
@@ -176,9 +177,13 @@ fn advance(
     ensures none { pool.new.kits ≡ [] }
     ensures total { pool.new.total ≡ 1 }
 {
+    let Input {
+        program,
+        tables,
+        records,
+    } = input;
     are_monoids(program);
-    let records = Records::new(alloc);
-    let stepped = strand.advance(alloc, program, tables, &records, pool);
+    let stepped = strand.advance(alloc, program, tables, records, pool);
     let _ = stepped.expect(rt, "memory");
 }
 
@@ -192,6 +197,7 @@ fn step(
     child: Child,
     parents: &mut Vec<Task>,
 )
+    requires empty { input.records.now ≡ [] }
     requires kinds { strand.old.layer.kinds ≡ input.program.now.kinds }
     requires lower { strand.old.lower ≡ [] }
     requires none { pool.old.kits ≡ [] }
@@ -201,32 +207,26 @@ fn step(
     ensures none { pool.new.kits ≡ [] }
     ensures total { pool.new.total ≡ 1 }
 {
-    let Input { program, tables } = input;
-    go_ahead(alloc, program, tables, strand, child);
-    advance(rt, alloc, program, tables, strand, pool);
+    go_ahead(alloc, input, strand, child);
+    advance(rt, alloc, input, strand, pool);
     spawn(rt, alloc, strand, child, parents);
     go_back(strand, parents);
 }
 
 /// The strand goes on to a point at which it pauses.
-pub fn to_pause(
-    rt: &impl Abort,
-    alloc: Global,
-    program: &Checked,
-    tables: &Tables,
-    strand: &mut Strand<PlainView>,
-)
-    requires kinds { strand.old.layer.kinds ≡ program.now.kinds }
+pub fn to_pause(rt: &impl Abort, alloc: Global, input: Input<'_>, strand: &mut Strand<PlainView>)
+    requires empty { input.records.now ≡ [] }
+    requires kinds { strand.old.layer.kinds ≡ input.program.now.kinds }
     requires lower { strand.old.lower ≡ [] }
     ensures kinds { strand.new.layer.kinds ≡ strand.old.layer.kinds }
     ensures lower { strand.new.lower ≡ [] }
 {
     let mut pool = no_kits(rt, alloc);
     for _ in 0..STEPS {
-        if !matches!(strand.pause(program), Paused::Working) {
+        if !matches!(strand.pause(input.program), Paused::Working) {
             break;
         }
-        advance(rt, alloc, program, tables, strand, &mut pool);
+        advance(rt, alloc, input, strand, &mut pool);
     }
 }
 
@@ -247,12 +247,12 @@ fn first_at_end(
 pub fn go_on(
     rt: &impl Abort,
     alloc: Global,
-    program: &Checked,
-    tables: &Tables,
+    input: Input<'_>,
     strand: &mut Strand<PlainView>,
     child: Child,
 ) -> usize
-    requires kinds { strand.old.layer.kinds ≡ program.now.kinds }
+    requires empty { input.records.now ≡ [] }
+    requires kinds { strand.old.layer.kinds ≡ input.program.now.kinds }
     requires lower { strand.old.lower ≡ [] }
     ensures kinds { strand.new.layer.kinds ≡ strand.old.layer.kinds }
     ensures lower { strand.new.lower ≡ [] }
@@ -261,8 +261,7 @@ pub fn go_on(
     let mut parents = Vec::new(alloc);
     let mut steps = STEPS;
     for i in 0..STEPS {
-        steps = first_at_end(program, strand, steps, i);
-        let input = Input { program, tables };
+        steps = first_at_end(input.program, strand, steps, i);
         step(rt, alloc, input, strand, &mut pool, child, &mut parents);
     }
     steps

@@ -1,11 +1,10 @@
 //! A strand that is given no kit at some of its calls for one: its answer stays, and as many instances go unrecorded.
-ghost use Rattle.std.specs.Prelude.{◌≡◌, ◌+◌, ◌≤◌, suc, length, List, Contains};
+ghost use Rattle.std.specs.Prelude.{◌≡◌, ◌+◌, ◌≤◌, suc, length, List, Contains, []};
 ghost use Rattle.monoid_laws.specs.declared.Kind.{Kind};
 
 use super::answers::answer_text;
-use super::driving::{are_monoids, begin};
+use super::driving::{Input, are_monoids, begin};
 use frames::strand::Strand;
-use input_tables::Tables;
 use linked_program::checked::Checked;
 use positions::answer::RunAnswer;
 use positions::phase::Phase;
@@ -81,21 +80,25 @@ fn first_kit(rt: &impl Abort, program: &Checked, kits: &mut Sparing) -> Kit<Plai
 fn step(
     rt: &impl Abort,
     alloc: Global,
-    program: &Checked,
-    tables: &Tables,
+    input: Input<'_>,
     strand: &mut Strand<PlainView>,
     kits: &mut Sparing,
 )
-    requires kinds { strand.old.layer.kinds ≡ program.now.kinds }
-    requires given { (k : List Kind) → Contains kits.old.pool.kits k → k ≡ program.now.kinds }
+    requires empty { input.records.now ≡ [] }
+    requires kinds { strand.old.layer.kinds ≡ input.program.now.kinds }
+    requires given { (k : List Kind) → Contains kits.old.pool.kits k → k ≡ input.program.now.kinds }
     requires room { suc (length strand.old.lower) + length kits.old.pool.kits ≤ kits.old.pool.total }
-    ensures kinds { strand.new.layer.kinds ≡ program.now.kinds }
-    ensures given { (k : List Kind) → Contains kits.new.pool.kits k → k ≡ program.now.kinds }
+    ensures kinds { strand.new.layer.kinds ≡ input.entry.program.now.kinds }
+    ensures given { (k : List Kind) → Contains kits.new.pool.kits k → k ≡ input.entry.program.now.kinds }
     ensures room { suc (length strand.new.lower) + length kits.new.pool.kits ≤ kits.new.pool.total }
 {
+    let Input {
+        program,
+        tables,
+        records,
+    } = input;
     are_monoids(program);
-    let records = Records::new(alloc);
-    let stepped = strand.advance(alloc, program, tables, &records, kits);
+    let stepped = strand.advance(alloc, program, tables, records, kits);
     let _ = stepped.expect(rt, "memory");
     if let Phase::AtSpawn = strand.phase() {
         strand.inline();
@@ -106,17 +109,17 @@ fn step(
 fn go_on(
     rt: &impl Abort,
     alloc: Global,
-    program: &Checked,
-    tables: &Tables,
+    input: Input<'_>,
     strand: &mut Strand<PlainView>,
     kits: &mut Sparing,
 )
-    requires kinds { strand.old.layer.kinds ≡ program.now.kinds }
-    requires given { (k : List Kind) → Contains kits.old.pool.kits k → k ≡ program.now.kinds }
+    requires empty { input.records.now ≡ [] }
+    requires kinds { strand.old.layer.kinds ≡ input.program.now.kinds }
+    requires given { (k : List Kind) → Contains kits.old.pool.kits k → k ≡ input.program.now.kinds }
     requires room { suc (length strand.old.lower) + length kits.old.pool.kits ≤ kits.old.pool.total }
 {
     for _ in 0..STEPS {
-        step(rt, alloc, program, tables, strand, kits);
+        step(rt, alloc, input, strand, kits);
     }
 }
 
@@ -133,45 +136,35 @@ fn counts(answer: &RunAnswer) -> (u64, u64) {
 }
 
 /// Four instances are executed by a run that is given no kit at these of their calls, and all but so many have a record then.
-fn go_unrecorded(
-    rt: &impl Abort,
-    alloc: Global,
-    program: &Checked,
-    tables: &Tables,
-    refused: usize,
-    unrecorded: u64,
-) {
-    let mut kits = all_kits(rt, alloc, program);
-    let kit = first_kit(rt, program, &mut kits);
+fn go_unrecorded(rt: &impl Abort, alloc: Global, input: Input<'_>, refused: usize, unrecorded: u64)
+    requires empty { input.records.now ≡ [] }
+{
+    let mut kits = all_kits(rt, alloc, input.program);
+    let kit = first_kit(rt, input.program, &mut kits);
     kits.refused = refused;
-    let mut strand = begin(rt, alloc, program, kit);
-    go_on(rt, alloc, program, tables, &mut strand, &mut kits);
+    let mut strand = begin(rt, alloc, input.program, kit);
+    go_on(rt, alloc, input, &mut strand, &mut kits);
     let (answer, made) = strand.end(alloc, &mut kits);
-    is_answered(
-        rt,
-        alloc,
-        program,
-        &answer,
-        made.len(),
-        (refused, unrecorded),
+    let text = answer_text(rt, alloc, input.program.program(), &answer);
+    let found = (text.as_str(), counts(&answer), made.len());
+    assert!(rt;
+        is_answered(found, unrecorded) && is_home(&kits),
+        "{refused}"
     );
-    assert_eq!(rt; (kits.refused, kits.pool.free()), (0, 3));
 }
 
-/// The answer to a run that is given no kit at these calls is the program's, with so many records and so many instances that have none.
-fn is_answered(
-    rt: &impl Abort,
-    alloc: Global,
-    program: &Checked,
-    answer: &RunAnswer,
-    records: usize,
-    calls: (usize, u64),
-) {
-    let (refused, unrecorded) = calls;
-    let text = answer_text(rt, alloc, program.program(), answer);
-    assert_eq!(rt; text.as_str(), "131 [Int(131)]", "{refused}");
-    assert_eq!(rt; counts(answer), (4, unrecorded), "{refused}");
-    assert_eq!(rt; (records as u64).wrapping_add(unrecorded), 4, "{refused}");
+/// Whether all calls for a kit were made that are refused one, and all kits are free.
+fn is_home(kits: &Sparing) -> bool {
+    kits.refused == 0 && kits.pool.free() == 3
+}
+
+/// Whether a run's answer, its counts and its number of records are the program's, where so many instances have no record.
+fn is_answered(found: (&str, (u64, u64), usize), unrecorded: u64) -> bool {
+    let (text, counts, records) = found;
+    text == "131 [Int(131)]"
+        && counts.0 == 4
+        && counts.1 == unrecorded
+        && (records as u64).wrapping_add(unrecorded) == 4
 }
 
 /// The calls of each run as bits, and how many of them are set.
@@ -194,11 +187,24 @@ const CALLS: [(usize, u64); 16] = [
     (15, 4),
 ];
 
+/// Runs that are given no kit at any calls, over no records.
+fn all_go_unrecorded(rt: &impl Abort, alloc: Global, input: Input<'_>)
+    requires empty { input.records.now ≡ [] }
+{
+    for calls in &CALLS {
+        go_unrecorded(rt, alloc, input, calls.0, calls.1);
+    }
+}
+
 #[test]
 fn no_kit_at_any_calls(rt: HostRuntime) {
     let tables = tables(rt.alloc(), SALES).expect(&rt, "tables");
     let program = checked(rt.alloc(), NESTED_READS, &tables).expect(&rt, "a program");
-    for (refused, unrecorded) in CALLS {
-        go_unrecorded(&rt, rt.alloc(), &program, &tables, refused, unrecorded);
-    }
+    let records = Records::new(rt.alloc());
+    let input = Input {
+        program: &program,
+        tables: &tables,
+        records: &records,
+    };
+    all_go_unrecorded(&rt, rt.alloc(), input);
 }

@@ -25,12 +25,20 @@ fn is_unfinished(alloc: Global, strand: &Strand<PlainView>) -> bool {
     matches!(&strand.answer(alloc), RunAnswer::Unfinished)
 }
 
-/// The first strand, which has done nothing, is known as that, and has no answer.
-fn is_first(rt: &impl Abort, alloc: Global, program: &Checked, strand: &Strand<PlainView>) {
-    assert!(rt; begins_first(alloc, strand) && is_unfinished(alloc, strand));
-    assert!(rt; strand.name().is_empty() && strand.is_behind(&[]) && !strand.is_behind(&[1]));
-    assert!(rt; matches!(strand.phase(), Phase::Entering) && strand.returned().is_none());
-    assert!(rt; !strand.at_update(program));
+/// Whether a strand is to enter an instance, and none has returned.
+fn is_entering(strand: &Strand<PlainView>) -> bool {
+    matches!(strand.phase(), Phase::Entering) && strand.returned().is_none()
+}
+
+/// Whether a strand is known as the first one, which has done nothing, and has no answer.
+fn is_first(alloc: Global, program: &Checked, strand: &Strand<PlainView>) -> bool {
+    begins_first(alloc, strand)
+        && is_unfinished(alloc, strand)
+        && strand.name().is_empty()
+        && strand.is_behind(&[])
+        && !strand.is_behind(&[1])
+        && is_entering(strand)
+        && !strand.at_update(program)
 }
 
 /// A strand is known as the first one. Its kit has one view.
@@ -38,8 +46,8 @@ fn is_known(rt: &impl Abort, alloc: Global, program: &Checked) {
     let mut pool = pool_of(rt, alloc, program);
     let kit = taken(rt, program, &mut pool);
     let strand = begin(rt, alloc, program, kit);
-    is_first(rt, alloc, program, &strand);
-    assert_eq!(rt; strand.close().len(), 1);
+    assert!(rt; is_first(alloc, program, &strand));
+    assert!(rt; strand.close().len() == 1);
 }
 
 #[test]

@@ -1,7 +1,11 @@
 //! Programs on strands by given steps: each way of a spawned child, and continuations that are stolen.
+ghost use Rattle.std.specs.Prelude.{◌≡◌, []};
 
-use super::driving::Child;
+use super::driving::{Child, Input};
 use super::thefts::{Row, rows_answer, run};
+use rerun_records::records::Records;
+use std::alloc::Global;
+use std::process::Abort;
 use test_kit::beginnings::{checked, tables};
 use test_kit::texts::SALES;
 
@@ -118,12 +122,24 @@ proc main() { cilk_for i in 0 .. 100 grain 100 : leaf(i); x = call leaf(4); y = 
 /// What it ends with.
 const OF_MANY: &str = "35 [Int(2811), List([99, 5])]";
 
+/// Whether the program is done in ten steps by one strand, which does in one go what it can.
+fn is_done_in_one_go(rt: &impl Abort, alloc: Global, input: Input<'_>) -> bool
+    requires { input.records.now ≡ [] }
+{
+    let ran = run(rt, alloc, input, 0, Child::Ahead);
+    ran.answer.as_str() == OF_MANY && ran.steps <= 10
+}
+
 /// Main's loop, its share of it and the end of main are done by themselves, and what is behind each of them.
 #[test]
 fn most_steps_are_done_in_one_go(rt: HostRuntime) {
     let tables = tables(rt.alloc(), SALES).expect(&rt, "tables");
     let program = checked(rt.alloc(), MANY, &tables).expect(&rt, "a program");
-    let ran = run(&rt, rt.alloc(), &program, &tables, 0, Child::Ahead);
-    assert_eq!(&rt; ran.answer.as_str(), OF_MANY);
-    assert!(&rt; ran.steps <= 10);
+    let records = Records::new(rt.alloc());
+    let input = Input {
+        program: &program,
+        tables: &tables,
+        records: &records,
+    };
+    assert!(&rt; is_done_in_one_go(&rt, rt.alloc(), input));
 }

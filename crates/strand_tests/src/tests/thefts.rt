@@ -8,6 +8,7 @@ use frames::strand::Strand;
 use input_tables::Tables;
 use linked_program::checked::Checked;
 use positions::phase::{Paused, Phase};
+use rerun_records::records::Records;
 use std::alloc::Global;
 use std::process::Abort;
 use test_kit::beginnings::{checked, kits, tables};
@@ -63,22 +64,22 @@ fn steal(
 fn rob(
     rt: &impl Abort,
     alloc: Global,
-    program: &Checked,
-    tables: &Tables,
+    input: Input<'_>,
     victim: &mut Strand<PlainView>,
     pool: &mut Pool<Kit<PlainView>>,
 ) -> Strand<PlainView>
-    requires kits { All (λ k. k ≡ program.now.kinds) pool.old.kits }
-    requires kinds { victim.old.layer.kinds ≡ program.now.kinds }
+    requires empty { input.records.now ≡ [] }
+    requires kits { All (λ k. k ≡ input.program.now.kinds) pool.old.kits }
+    requires kinds { victim.old.layer.kinds ≡ input.program.now.kinds }
     requires lower { victim.old.lower ≡ [] }
-    ensures kits { All (λ k. k ≡ program.now.kinds) pool.new.kits }
-    ensures kinds { result.layer.kinds ≡ program.now.kinds }
+    ensures kits { All (λ k. k ≡ input.entry.program.now.kinds) pool.new.kits }
+    ensures kinds { result.layer.kinds ≡ input.entry.program.now.kinds }
     ensures lower { result.lower ≡ [] }
     ensures victim_kinds { victim.new.layer.kinds ≡ victim.old.layer.kinds }
     ensures victim_lower { victim.new.lower ≡ [] }
 {
-    to_pause(rt, alloc, program, tables, victim);
-    steal(rt, alloc, program, victim, pool)
+    to_pause(rt, alloc, input, victim);
+    steal(rt, alloc, input.program, victim, pool)
 }
 
 /// Whether the left strand is through, and the right one waits for it.
@@ -134,6 +135,7 @@ fn go_on_beside(
     pool: &mut Pool<Kit<PlainView>>,
     child: Child,
 )
+    requires empty { input.records.now ≡ [] }
     requires kinds { left.old.layer.kinds ≡ input.program.now.kinds }
     requires lower { left.old.lower ≡ [] }
     requires right_kinds { right.old.layer.kinds ≡ input.program.now.kinds }
@@ -143,12 +145,11 @@ fn go_on_beside(
     ensures right_kinds { right.new.layer.kinds ≡ right.old.layer.kinds }
     ensures right_lower { right.new.lower ≡ [] }
 {
-    let Input { program, tables } = input;
-    let _ = go_on(rt, alloc, program, tables, right, child);
-    let _ = go_on(rt, alloc, program, tables, left, child);
+    let _ = go_on(rt, alloc, input, right, child);
+    let _ = go_on(rt, alloc, input, left, child);
     give_up(left, pool);
     give_up(right, pool);
-    assert!(rt; are_neighbours(program, left, right));
+    assert!(rt; are_neighbours(input.program, left, right));
 }
 
 /// A strand is robbed, the thief is robbed in turn, and so on, so many times; then all go on, the last one first, and become one
@@ -162,6 +163,7 @@ fn play(
     thefts: usize,
     child: Child,
 )
+    requires empty { input.records.now ≡ [] }
     requires kits { All (λ k. k ≡ input.program.now.kinds) pool.old.kits }
     requires kinds { victim.old.layer.kinds ≡ input.program.now.kinds }
     requires lower { victim.old.lower ≡ [] }
@@ -171,7 +173,7 @@ fn play(
     if thefts == 0 {
         return;
     }
-    let mut thief = rob(rt, alloc, input.program, input.tables, victim, pool);
+    let mut thief = rob(rt, alloc, input, victim, pool);
     play(rt, alloc, input, &mut thief, pool, thefts - 1, child);
     go_on_beside(rt, alloc, input, victim, &mut thief, pool, child);
     are_monoids(input.program);
@@ -187,20 +189,15 @@ pub struct Ran {
 }
 
 /// Runs a program with so many thefts, each at the next spawn.
-pub fn run(
-    rt: &impl Abort,
-    alloc: Global,
-    program: &Checked,
-    tables: &Tables,
-    thefts: usize,
-    child: Child,
-) -> Ran {
+pub fn run(rt: &impl Abort, alloc: Global, input: Input<'_>, thefts: usize, child: Child) -> Ran
+    requires empty { input.records.now ≡ [] }
+{
+    let program = input.program;
     let mut pool = pool_of(rt, alloc, program);
     let kit = taken(rt, program, &mut pool);
     let mut strand = begin(rt, alloc, program, kit);
-    let input = Input { program, tables };
     play(rt, alloc, input, &mut strand, &mut pool, thefts, child);
-    let steps = go_on(rt, alloc, program, tables, &mut strand, child);
+    let steps = go_on(rt, alloc, input, &mut strand, child);
     let (answer, _) = strand.end(alloc, &mut pool);
     Ran {
         answer: answer_text(rt, alloc, program.program(), &answer),
@@ -213,24 +210,23 @@ pub fn run(
 pub type Row = (&'static str, usize, &'static str);
 
 /// A run with so many thefts gives the answer of the row, and all kits are home then.
-fn agrees(
-    rt: &impl Abort,
-    alloc: Global,
-    input: Input<'_>,
-    row: &Row,
-    thefts: usize,
-    child: Child,
-) {
-    let ran = run(rt, alloc, input.program, input.tables, thefts, child);
-    assert_eq!(rt; ran.answer.as_str(), row.2, "{thefts} thefts: {}", row.0);
-    assert!(rt; ran.kits == KITS);
+fn agrees(rt: &impl Abort, alloc: Global, input: Input<'_>, row: &Row, thefts: usize, child: Child)
+    requires empty { input.records.now ≡ [] }
+{
+    let ran = run(rt, alloc, input, thefts, child);
+    assert!(rt;
+        ran.answer.as_str() == row.2 && ran.kits == KITS,
+        "{thefts} thefts: {}",
+        row.0
+    );
 }
 
 /// The program of a row gives the answer with each number of thefts, whichever way the other children go, as the plain slow program
 /// does. All kits are home then.
-fn all_answer(rt: &impl Abort, alloc: Global, program: &Checked, tables: &Tables, row: &Row) {
-    agrees_slowly(rt, alloc, program, row);
-    let input = Input { program, tables };
+fn all_answer(rt: &impl Abort, alloc: Global, input: Input<'_>, row: &Row)
+    requires empty { input.records.now ≡ [] }
+{
+    agrees_slowly(rt, alloc, input.program, row);
     for thefts in 0..row.1 {
         agrees(rt, alloc, input, row, thefts, Child::Called);
         agrees(rt, alloc, input, row, thefts, Child::PutBack);
@@ -243,7 +239,7 @@ fn all_answer(rt: &impl Abort, alloc: Global, program: &Checked, tables: &Tables
 /// The plain slow program gives the answer of the row.
 fn agrees_slowly(rt: &impl Abort, alloc: Global, program: &Checked, row: &Row) {
     let slow = slow_text(rt, alloc, program.program());
-    assert_eq!(rt; slow.as_str(), row.2, "{}", row.0);
+    assert!(rt; slow.as_str() == row.2, "{}", row.0);
 }
 
 /// The programs of the rows give their answers.
@@ -256,5 +252,11 @@ pub fn rows_answer(rt: &impl Abort, alloc: Global, rows: &[Row]) {
 
 fn row_answers(rt: &impl Abort, alloc: Global, tables: &Tables, row: &Row) {
     let program = checked(alloc, row.0, tables).expect(rt, "a program");
-    all_answer(rt, alloc, &program, tables, row);
+    let records = Records::new(alloc);
+    let input = Input {
+        program: &program,
+        tables,
+        records: &records,
+    };
+    all_answer(rt, alloc, input, row);
 }
