@@ -14,6 +14,3 @@ mod prepared_tests;
 mod running;
 #[cfg(test)]
 mod stream_tests;
-
-/// Does nothing: only its tests are run. A program takes `rt ci` less than a library does, which nothing uses.
-fn main() {}

@@ -4,6 +4,3 @@
 
 #[cfg(test)]
 mod tests;
-
-/// Does nothing: only its tests are run. A program takes `rt ci` less than a library does, which nothing uses.
-fn main() {}
