@@ -10,6 +10,7 @@ pub mod Levels
 pub mod Stepping
 pub mod LeafSteps
 pub mod LeafChains
+pub mod AnsweredChains
 pub mod RecordedTurns
 pub mod HalvesRecorded
 pub mod PartsRecorded

@@ -3,3 +3,4 @@ pub mod Chains
 pub mod Stepped
 pub mod Leaves
 pub mod RecordedHalves
+pub mod AnsweredChains

@@ -2,6 +2,7 @@
 #![tactic(auto)]
 
 pub mod ahead;
+mod answered_chain;
 mod called_halves;
 pub mod came;
 mod children;

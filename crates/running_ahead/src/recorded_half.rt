@@ -13,10 +13,11 @@ ghost use Rattle.running_ahead.specs.Chains.{IsClear, reach};
 ghost use Rattle.running_ahead.specs.Leaves.{AreRecorded, Gathered, IsRecordedAhead, arguments_then, gathered_of};
 ghost use Rattle.running_ahead.specs.RecordedHalves.{HalfRecords};
 
+use crate::answered_chain::chain_through;
 use crate::called_halves::{copies, end_half, keep_all, levels, turn_to};
 use crate::descent::{Part, Ready, descend};
 use crate::halves::is_halved;
-use crate::leaf_chain::{Stretch, record_chain};
+use crate::leaf_chain::Stretch;
 use crate::ready::{make_ready, may_record, put_last};
 use crate::spawning::Spawning;
 use activations::activation::Activation;
@@ -31,6 +32,9 @@ use small_steps::machine::Machine;
 use std::alloc::{AllocError, Global};
 use view_pool::{Kit, KitSource, View};
 
+/// So few iterations are done in one go whether spawned children are called or not: to have another worker take some of them takes longer.
+const SMALL: u32 = 32;
+
 /// A half of a loop: that share of its iterations, which may be halved so many times more.
 #[derive(Clone, Copy)]
 pub(crate) struct Half {
@@ -39,8 +43,8 @@ pub(crate) struct Half {
     pub(crate) share: Share,
 }
 
-/// Where the topmost instance has a half of few iterations left, of a memo procedure, and spawned children are called: does its iterations in
-/// one go, as many as no records answer and as do all of their statements by themselves. Whether it did anything.
+/// Where the topmost instance has a half of few iterations left, of a memo procedure, and spawned children are called or the half is small:
+/// does its iterations in one go, as far as records answer them or they do all of their statements by themselves. Whether it did anything.
 #[inline(never)]
 #[tactic(auto, using(crate::proofs::Kept::recorded_here, crate::proofs::Kept::kits_same))]
 pub(crate) fn record_half<V: View, S: Spawning, K: KitSource<Kit<V>>>(
@@ -71,7 +75,7 @@ pub(crate) fn record_half<V: View, S: Spawning, K: KitSource<Kit<V>>>(
     let Some(levels) = levels_of(machine, setting, code, part) else {
         return Ok(false);
     };
-    if !spawning.is_called() {
+    if half.share.count > SMALL && !spawning.is_called() {
         return Ok(false);
     }
     let Some(copies) = make_parts(machine, alloc, setting.program.slots(code.callee), levels) else {
@@ -172,9 +176,17 @@ fn record_part<V: View, K: KitSource<Kit<V>>>(
         share: ready.part.share,
         most: ready.part.share.count,
     };
-    let (done, kit) = record_chain(machine, alloc, setting, code, stretch, kit)?;
-    send_home(kits, kit);
-    settle_half(machine, alloc, ready, done)
+    match chain_through(machine, alloc, setting, code, stretch, kit) {
+        Ok((done, kit)) => {
+            send_home(kits, kit);
+            settle_half(machine, alloc, ready, done)
+        }
+        Err(Some(kit)) => {
+            send_home(kits, kit);
+            Err(AllocError)
+        }
+        Err(None) => Err(AllocError),
+    }
 }
 
 /// So many iterations of the topmost instance's half are recorded: it is over, or the part that has the next one is put on top. There is room

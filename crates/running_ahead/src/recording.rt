@@ -9,7 +9,8 @@ ghost use Rattle.small_steps.specs.Steps.{GivesNone, IsSuppliedBy, IsWhole, Keep
 ghost use Rattle.activations.specs.Turned.{turned_by};
 ghost use Rattle.running_ahead.specs.Leaves.{IsAmid, IsRecordedAhead, arguments_then};
 
-use crate::leaf_chain::{Stretch, record_chain};
+use crate::answered_chain::chain_through;
+use crate::leaf_chain::Stretch;
 use crate::plain::are_recorded;
 use crate::ready::{make_ready, put_last};
 use crate::recorded_half::{Half, record_half};
@@ -28,10 +29,10 @@ use view_pool::{Kit, KitSource, View};
 // How many iterations are done in one go.
 const ITERATIONS: u32 = 1024;
 
-/// Where the topmost instance is a loop's over a memo procedure: does its next iterations in one go, as many as no records answer and as do
-/// all of their statements by themselves, each in a layer of its own that becomes a record; those of a half only where spawned children are
-/// called. Whether it did anything. A kit is taken for that, and given back. Where memory is refused when a layer becomes a record, the
-/// strand can't go on.
+/// Where the topmost instance is a loop's over a memo procedure: does its next iterations in one go, as far as records answer them or they do
+/// all of their statements by themselves, each of these in a layer of its own that becomes a record; those of a half only where it is
+/// small or spawned children are called. Whether it did anything. A kit is taken for that, and given back. Where memory is refused
+/// meanwhile, the strand can't go on.
 #[inline(always)]
 #[tactic(auto, using(crate::proofs::Kept::recorded_here, crate::proofs::Kept::kits_same))]
 pub fn record_ahead<V: View, S: Spawning, K: KitSource<Kit<V>>>(
@@ -173,9 +174,17 @@ fn record_stretch<V: View, K: KitSource<Kit<V>>>(
     let Some(kit) = kits.take() else {
         return Ok(false);
     };
-    let (done, kit) = record_chain(machine, alloc, setting, code, stretch, kit)?;
-    send_home(kits, kit);
-    settle(machine, stretch, done)
+    match chain_through(machine, alloc, setting, code, stretch, kit) {
+        Ok((done, kit)) => {
+            send_home(kits, kit);
+            settle(machine, stretch, done)
+        }
+        Err(Some(kit)) => {
+            send_home(kits, kit);
+            Err(AllocError)
+        }
+        Err(None) => Err(AllocError),
+    }
 }
 
 /// The loop's instance has called so many iterations; whether these are some.
