@@ -30,8 +30,8 @@ pub(crate) const HALVINGS: u32 = meaning::HALVINGS;
 /// Where the topmost instance is a loop's over a memo procedure, has records answer iterations: all those of a half that is halved
 /// again, where they can, else the first ones, and it goes down to the next; or the first ones of those that are left one by one. At a
 /// spawn it has a record answer the child. Whether any were answered. It is said whether a spawned child is called, for the halves that
-/// aren't answered, and whether those of few iterations, of which the first one isn't answered, are left as they are. Where memory is
-/// refused the strand can't go on.
+/// aren't answered, and whether those of few iterations, which aren't all answered, are left as they are. Where memory is refused the
+/// strand can't go on.
 #[inline(always)]
 #[tactic(auto, using(crate::proofs::Replays::answered_same))]
 pub fn answer_ahead<V: View>(

@@ -21,12 +21,14 @@ use small_steps::machine::Machine;
 use std::alloc::{AllocError, Global};
 use view_pool::View;
 
-/// Halves of so few iterations are left as they are, where that is asked for.
+/// Halves of so few iterations are left as they are, where that is asked for and spawned children are called.
 const FEW: u32 = 64;
 
+/// The same whether they are called or not.
+const SMALL: u32 = 32;
+
 /// A half may be halved so many times, and so many of its iterations are answered; whether it is known that the one behind these
-/// isn't, whether spawned children are called, and whether a half of few iterations, of which the first one isn't answered, is left as
-/// it is.
+/// isn't, whether spawned children are called, and whether a half of few iterations, which aren't all answered, is left as it is.
 #[derive(Clone, Copy)]
 pub(crate) struct Descent {
     pub(crate) halvings: u32,
@@ -110,9 +112,10 @@ fn behind<'b, 'a>(found: &'b [Batch<'a>], count: usize) -> &'b [Batch<'a>]
     &found[count..]
 }
 
-/// Whether a half of those iterations is left as it is.
+/// Whether a half of those iterations, which aren't all answered, is left as it is.
 fn is_left(descent: Descent, share: Share) -> bool {
-    descent.leaves && descent.is_stale && descent.answered == 0 && share.count <= FEW
+    let most = if descent.calls { FEW } else { SMALL };
+    descent.leaves && share.count <= most
 }
 
 /// Goes down to half of a half's iterations, or where these are done one by one, to the first of them.
@@ -139,6 +142,9 @@ fn go_down<V: View>(
         begin_last(machine, alloc, setting, found, turns, descent.halvings)?;
         return Ok(None);
     }
+    if is_left(descent, turns.share) {
+        return Ok(None);
+    }
     match batches_for(found, turns.share.count / 2) {
         Some(count) => go_right(
             machine,
@@ -150,7 +156,7 @@ fn go_down<V: View>(
             count,
         ),
         None => {
-            if !descent.calls || is_left(descent, turns.share) {
+            if !descent.calls {
                 return Ok(None);
             }
             Ok(go_left(machine, alloc, setting, found, turns, descent.halvings))
