@@ -4,3 +4,4 @@ pub mod Stepped
 pub mod Leaves
 pub mod RecordedHalves
 pub mod AnsweredChains
+pub mod Recursion

@@ -1,5 +1,5 @@
 //! Instances that are called, or spawned where they are called then: they stand on the strand only where they have more to do.
-ghost use Rattle.std.specs.Prelude.{◌≡◌, ◌+◌, ◌<◌, ◌^◌, ◌++◌, ◌∷◌, [], ℕ, true, false, length, map, vec_len, vec_capacity};
+ghost use Rattle.std.specs.Prelude.{◌≡◌, ◌+◌, ◌<◌, ◌≤◌, ◌^◌, ◌++◌, ◌∷◌, [], ℕ, List, true, false, length, map, vec_len, vec_capacity};
 ghost use Rattle.linked_program.specs.CodeView.{expression as plain, slots_of, memo_of};
 ghost use Rattle.evaluation.specs.Values.{entry_at};
 ghost use Rattle.positions.specs.Strands.{entry_by};
@@ -9,12 +9,16 @@ ghost use Rattle.activations.specs.Given.{lent};
 ghost use Rattle.own_statements.specs.Runs.{IsBody};
 ghost use Rattle.small_steps.specs.Steps.{nested_plain};
 ghost use Rattle.running_ahead.specs.Ahead.{GoesAhead, GoesAheadBy, CameBy, is_spawned};
+ghost use Rattle.running_ahead.specs.Recursion.{HasRoomAbove};
 
 use crate::came::Came;
+use crate::recursion::{Enters, Own, called, calls_itself};
 use activations::activation::{Activation, next_of};
 use activations::code::instructions;
 use activations::setting::Setting;
 use activations::spares::Spares;
+use layers::layer::DEEPEST;
+use layers::tally::Tally;
 use linked_program::checked::Checked;
 use linked_program::code::{Expression, Instruction, Operation};
 use meaning::tree::Way;
@@ -152,11 +156,150 @@ fn enter_plain_ahead<V: View>(
         (nested_plain statement callee.entry.way callee.entry.into (Work.Block callee.entry.next) callee.entry.procedure)) machine.old machine.new }
     ensures running { machine.new.phase ≡ Phase.Running }
 {
+    if is_found_at_once(machine, setting, callee, body) {
+        return Came::Back;
+    }
     match child_ahead(machine, alloc, setting, callee, body) {
         Came::Nowhere => Came::Nowhere,
         Came::Back => Came::Back,
         Came::Stays => Came::Stays,
     }
+}
+
+/// Calls that instance, where it is one of the topmost one's own procedure whose value is found without an instance on the strand;
+/// whether it is.
+#[inline(always)]
+fn is_found_at_once<V: View>(
+    machine: &mut Machine<V>,
+    setting: Setting<'_>,
+    callee: Callee<'_>,
+    body: Body<'_>,
+) -> bool
+    requires kinds { machine.old.layer.kinds ≡ setting.program.now.kinds }
+    requires running { machine.old.phase ≡ Phase.Running }
+    requires size { body.size ≡ slots_of setting.program.now.codes callee.procedure }
+    requires body { IsBody setting.program.now.codes callee.procedure body.statements.now }
+    requires plain { memo_of setting.program.now.codes callee.procedure ≡ false }
+    ensures came { result ≡ true → ((statement : ℕ) → GoesAhead (lent setting.entry)
+        (evaluated statement (entry_at setting.entry.tables.now.tables machine.old.top.slots
+        (slots_of setting.entry.program.now.codes callee.entry.procedure) (map plain callee.entry.arguments.now))
+        (nested_plain statement callee.entry.way callee.entry.into (Work.Block callee.entry.next) callee.entry.procedure)) machine.old machine.new) }
+    ensures unchanged { result ≡ false → machine.new ≡ machine.old }
+    ensures running { machine.new.phase ≡ Phase.Running }
+{
+    if machine.top.procedure() != callee.procedure {
+        return false;
+    }
+    find_at_once(machine, setting, callee, body)
+}
+
+/// Calls that instance, which is of the topmost one's procedure, where its value is found without an instance on the strand.
+#[inline(never)]
+fn find_at_once<V: View>(
+    machine: &mut Machine<V>,
+    setting: Setting<'_>,
+    callee: Callee<'_>,
+    body: Body<'_>,
+) -> bool
+    requires kinds { machine.old.layer.kinds ≡ setting.program.now.kinds }
+    requires running { machine.old.phase ≡ Phase.Running }
+    requires own { machine.old.top.procedure ≡ callee.procedure }
+    requires size { body.size ≡ slots_of setting.program.now.codes callee.procedure }
+    requires body { IsBody setting.program.now.codes callee.procedure body.statements.now }
+    requires plain { memo_of setting.program.now.codes callee.procedure ≡ false }
+    ensures came { result ≡ true → ((statement : ℕ) → GoesAhead (lent setting.entry)
+        (evaluated statement (entry_at setting.entry.tables.now.tables machine.old.top.slots
+        (slots_of setting.entry.program.now.codes callee.entry.procedure) (map plain callee.entry.arguments.now))
+        (nested_plain statement callee.entry.way callee.entry.into (Work.Block callee.entry.next) callee.entry.procedure)) machine.old machine.new) }
+    ensures unchanged { result ≡ false → machine.new ≡ machine.old }
+    ensures running { machine.new.phase ≡ Phase.Running }
+{
+    let left = machine.top.left();
+    if machine.top.slots().len() != body.size || !calls_itself(setting.program, callee.procedure) {
+        return false;
+    }
+    if !has_room_above(machine) {
+        return false;
+    }
+    let Some(_) = machine.top.children().checked_add(1) else {
+        return false;
+    };
+    let mut least = left;
+    let own = Own {
+        procedure: callee.procedure,
+        body: body.statements,
+        left,
+    };
+    let enters = Enters {
+        way: callee.way,
+        callee: callee.procedure,
+        arguments: callee.arguments,
+    };
+    match called(
+        setting.program,
+        own,
+        machine.top.slots(),
+        enters,
+        &mut least,
+    ) {
+        Some(value) => {
+            machine.top.wait_at(false, callee.into, callee.next);
+            machine.top.receive(value);
+            machine
+                .layer
+                .enter(callee.procedure, DEEPEST.saturating_sub(least));
+            true
+        }
+        None => false,
+    }
+}
+
+/// Whether no instance above the topmost one begins the strand or owns the topmost layer.
+fn has_room_above<V: View>(machine: &Machine<V>) -> bool
+    ensures room { result ≡ true → HasRoomAbove machine.now.top.left machine.now }
+{
+    if !begins_no_higher(machine) {
+        return false;
+    }
+    if is_owned_below(&machine.tally, machine.path.len()) {
+        return true;
+    }
+    is_owned_by_none(&machine.tally, machine.path.len(), machine.top.left())
+}
+
+/// Whether the strand begins in no instance above its topmost one.
+fn begins_no_higher<V: View>(machine: &Machine<V>) -> bool
+    ensures entry { result ≡ true → (path : List ℕ) → length machine.now.path < length path → entry_by machine.now.start path ≡ false }
+{
+    match machine.start {
+        Start::Root => true,
+        Start::Behind { depth, child: _ } => depth <= machine.path.len(),
+    }
+}
+
+/// Whether the topmost layer is that of an instance whose name is no longer than that.
+fn is_owned_below(tally: &Tally, size: usize) -> bool
+    ensures below { result ≡ true → (n : ℕ) → size < n → is_own tally.now.opened n ≡ false }
+{
+    for less in 0..size {
+        if tally.is_own(size - less) {
+            return true;
+        }
+    }
+    false
+}
+
+/// Whether the topmost layer is that of no instance whose name is longer than that, by so much at most.
+fn is_owned_by_none(tally: &Tally, size: usize, more: u32) -> bool
+    requires room { size + more + 1 < 2 ^ 64 }
+    ensures none { result ≡ true → (n : ℕ) → n < more → is_own tally.now.opened (size + 1 + n) ≡ false }
+{
+    for behind in 0..more {
+        if tally.is_own(size + 1 + behind as usize) {
+            return false;
+        }
+    }
+    true
 }
 
 /// Calls that instance, whose procedure isn't marked memo, and does the statements that it does by itself. It stands on the strand

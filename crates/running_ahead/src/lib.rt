@@ -14,5 +14,6 @@ mod plain;
 pub mod ready;
 mod recorded_half;
 pub mod recording;
+mod recursion;
 pub mod spawning;
 pub mod turns;
