@@ -23,7 +23,7 @@ impl<V: View> Strand<V> {
     /// Where the topmost instance is a loop's over a memo procedure, has records answer iterations: all those of a half that is halved
     /// again, where they can, else the first ones, and it goes down to the next; or the first ones of those that are left one by one. At a
     /// spawn it has a record answer the child. Whether any were answered. It is said whether a spawned child is called, for the halves that
-    /// aren't answered; where one of few iterations may be recorded in one go, and the first one isn't answered, that is left as it is. Where
+    /// aren't answered, and whether a half of few iterations that aren't all answered is left as it is where they may be done in one go. Where
     /// memory is refused the strand can't go on.
     #[inline(always)]
     pub fn answer_ahead(
@@ -33,6 +33,7 @@ impl<V: View> Strand<V> {
         tables: &Tables,
         records: &Records,
         calls: bool,
+        leaves: bool,
     ) -> Result<bool, AllocError>
         requires kinds { self.old.layer.kinds ≡ program.now.kinds }
         requires monoids { All IsMonoid program.now.kinds }
@@ -53,16 +54,15 @@ impl<V: View> Strand<V> {
             tables,
             records,
         };
-        let leaves = leaves_halves(&self.machine, setting, calls);
+        let leaves = leaves && leaves_halves(&self.machine, setting);
         answer_ahead(&mut self.machine, alloc, setting, calls, leaves)
     }
 }
 
-/// Whether halves of few iterations, of which the first one isn't answered, are left as they are, since they may be recorded in one go:
-/// only where spawned children are called.
+/// Whether halves of few iterations that aren't all answered may be left as they are: they may be done in one go.
 #[inline(always)]
-fn leaves_halves<V: View>(machine: &Machine<V>, setting: Setting<'_>, calls: bool) -> bool {
-    if !calls || setting.records.is_empty() {
+fn leaves_halves<V: View>(machine: &Machine<V>, setting: Setting<'_>) -> bool {
+    if setting.records.is_empty() {
         return false;
     }
     records_halves(machine, setting.program)

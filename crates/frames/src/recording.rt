@@ -21,9 +21,9 @@ use std::alloc::{AllocError, Global};
 use view_pool::{Kit, KitSource, View};
 
 impl<V: View> Strand<V> {
-    /// Where a loop over a memo procedure is next: does its next iterations in one go, as many as no records answer and as do all of their
-    /// statements by themselves, each in a layer of its own that becomes a record; those of a half only where spawned children are called.
-    /// Whether it did anything. A kit is taken for that, and given back. Where memory is refused the strand can't go on.
+    /// Where a loop over a memo procedure is next: does its next iterations in one go, as far as records answer them or they do all of their
+    /// statements by themselves, each of these in a layer of its own that becomes a record; those of a half only where it is small or spawned
+    /// children are called. Whether it did anything. A kit is taken for that, and given back. Where memory is refused the strand can't go on.
     #[inline(always)]
     pub fn record_ahead<S: Spawning, K: KitSource<Kit<V>>>(
         &mut self,

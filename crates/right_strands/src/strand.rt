@@ -152,23 +152,29 @@ impl<J: Run, V: View> RightStrand<J, V> {
     /// Where the topmost instance is a loop's over a memo procedure, has records answer iterations: all those of a half that is halved
     /// again, where they can, else the first ones, and it goes down to the next; or the first ones of those that are left one by one. At a
     /// spawn it has a record answer the child. Whether any were answered. It is said whether a spawned child is called, for the halves that
-    /// aren't answered. Where memory is refused the strand has failed.
+    /// aren't answered, and whether a half of few iterations that aren't all answered is left as it is where they may be done in one go. Where
+    /// memory is refused the strand has failed.
     #[inline(always)]
     pub fn answer_ahead(
         &mut self,
         alloc: Global,
         scene: &Scene<'_, J>,
         calls: bool,
+        leaves: bool,
     ) -> Result<bool, AllocError>
         ensures way { OnOk result (IsWay J.setting self.old.strand self.new.strand) }
         ensures going { OnOk result (self.new.failed ≡ self.old.failed) }
         ensures failed { OnErr result (self.new.failed ≡ true) }
         ensures lower { self.new.strand.lower ≡ self.old.strand.lower }
     {
-        match self
-            .strand
-            .answer_ahead(alloc, scene.program, scene.tables, scene.records, calls)
-        {
+        match self.strand.answer_ahead(
+            alloc,
+            scene.program,
+            scene.tables,
+            scene.records,
+            calls,
+            leaves,
+        ) {
             Ok(done) => Ok(done),
             Err(error) => {
                 self.failed = true;
@@ -177,9 +183,9 @@ impl<J: Run, V: View> RightStrand<J, V> {
         }
     }
 
-    /// Where a loop over a memo procedure is next: does its next iterations in one go, as many as no records answer and as do all of their
-    /// statements by themselves, each in a layer of its own that becomes a record; those of a half only where spawned children are called.
-    /// Whether it did anything. A kit is taken for that, and given back. Where memory is refused the strand has failed.
+    /// Where a loop over a memo procedure is next: does its next iterations in one go, as far as records answer them or they do all of their
+    /// statements by themselves, each of these in a layer of its own that becomes a record; those of a half only where it is small or spawned
+    /// children are called. Whether it did anything. A kit is taken for that, and given back. Where memory is refused the strand has failed.
     #[inline(always)]
     pub fn record_ahead<S: Spawning, K: KitSource<Kit<V>>>(
         &mut self,

@@ -247,8 +247,8 @@ impl<J: Run + Ledger + Stocked + Send, D: Deques, V: View> Floor<'_, J, D, V> {
         }
     }
 
-    /// Small steps that need no kit, and iterations that records answer; where updates are watched none, and the gate is told of an
-    /// update that is next. Want of memory is the only error.
+    /// Small steps that need no kit, and iterations that records answer; halves of few iterations are left to those that record them in one go
+    /// behind these steps. Where updates are watched none, and the gate is told of an update that is next. Want of memory is the only error.
     #[inline(always)]
     #[tactic(auto, using(crate::proofs::Staying::stays_way))]
     fn steps_ahead<G: Gate>(
@@ -270,7 +270,7 @@ impl<J: Run + Ledger + Stocked + Send, D: Deques, V: View> Floor<'_, J, D, V> {
             return Ok(());
         }
         self.run_ahead(is_alone, spawned, strand);
-        let _ = strand.answer_ahead(self.alloc, &self.scene, spawned.calls())?;
+        let _ = strand.answer_ahead(self.alloc, &self.scene, spawned.calls(), !is_alone)?;
         Ok(())
     }
 
