@@ -134,8 +134,9 @@ def beside(folder, log):
             time.sleep(0.5)
         take(folder, log)
         with open(log, "rb") as file:
-            if re.search(rb"^\d+ passed, \d+ failed", file.read().splitlines()[-1]):
-                return 0
+            lines = file.read().splitlines()
+        if lines and re.search(rb"^\d+ passed, \d+ failed", lines[-1]):
+            return 0
 
 
 def begin_with_kept(crate):
