@@ -1,11 +1,13 @@
 #!/usr/bin/env python3
 """Prints which functions of a crate took the prover longest in a check, and which of the modules that it makes of them: by when each was
 saved, so that the check must have begun with no out/ folder and one job, as `HEARTSPLUM_JOBS=1 tools/check.py CRATE [--test]` and each of
-the gate's checks does. What a module waited for counts as its own: the first that needs a library has the time of loading it.
+the gate's checks does. What a module waited for counts as its own: the first that needs a library has the time of loading it. A check that
+is watched is told in seconds of its processor, so that it may wait for others; of a check with several jobs they mean little.
 
-usage: bench/gate/modules.py CRATE [HOW MANY]              of the crate's last check here
-       bench/gate/modules.py --watch FOLDER                notes of each check that begins on this machine, until it is stopped, when its
-                                                           modules are saved, in FOLDER/CRATE.json or CRATE.tests.json
+usage: bench/gate/modules.py CRATE [HOW MANY]              of the crate's last check here, by the clock
+       bench/gate/modules.py --watch FOLDER                notes of each check that begins on this machine, until it is stopped, at which
+                                                           second of its processor its modules are saved, in FOLDER/CRATE.json or
+                                                           CRATE.tests.json
        bench/gate/modules.py FOLDER/CRATE.json [HOW MANY]  of a check that was watched
 """
 import json
@@ -43,6 +45,30 @@ def check_of(process):
     return words[words.index("--crate-name") + 1] + ".tests" * ("--test" in words)
 
 
+def processor(process):
+    """How many seconds a process and the children that it has waited for have taken of the processors."""
+    with open(f"/proc/{process}/stat", encoding="utf-8", errors="replace") as it:
+        fields = it.read().rsplit(")", 1)[1].split()
+    return sum(int(ticks) for ticks in fields[11:15]) / os.sysconf("SC_CLK_TCK")
+
+
+class Watched:
+    """A check that is at work: the modules that it has saved, each with the second of its processor at which it was, and when it was looked
+    at last, by the clock and by the processor."""
+
+    def __init__(self, process):
+        self.process, self.modules, self.at = process, {}, (time.time(), processor(process))
+
+    def look(self, folder):
+        clock, seconds = self.at
+        self.at = time.time(), processor(self.process)
+        share = (self.at[1] - seconds) / max(self.at[0] - clock, 0.01)
+        for entry in os.scandir(folder):
+            if entry.name not in self.modules and ".tmp." not in entry.name:
+                since = min(max(entry.stat().st_mtime - clock, 0.0), self.at[0] - clock)
+                self.modules[entry.name] = round(seconds + share * since, 3)
+
+
 def look(found):
     """Adds what the checks that are at work have saved by now."""
     for folder in os.listdir(TEMPORARY):
@@ -50,10 +76,9 @@ def look(found):
         try:
             check = check_of(its[1]) if its else None
             if check:
-                modules = found.setdefault(check, {})
-                for entry in os.scandir(f"{TEMPORARY}/{folder}"):
-                    if entry.name not in modules:
-                        modules[entry.name] = entry.stat().st_mtime
+                if check not in found or found[check].process != its[1]:
+                    found[check] = Watched(its[1])
+                found[check].look(f"{TEMPORARY}/{folder}")
         except OSError:
             continue
 
@@ -63,10 +88,10 @@ def watch(folder):
     found = {}
     while True:
         look(found)
-        for check, modules in found.items():
+        for check, watched_one in found.items():
             with open(f"{folder}/{check}.json", "w", encoding="utf-8") as it:
-                json.dump(modules, it)
-        time.sleep(2)
+                json.dump(watched_one.modules, it)
+        time.sleep(1)
 
 
 def function_of(module, crate):
