@@ -79,6 +79,7 @@ impl Hull {
     }
 
     /// Whether one of these changes, each given by its table's number and the row, lies in it.
+    #[inline(always)]
     pub fn is_touched(&self, changes: &[(usize, i64)]) -> bool
         ensures touched { result ≡ is_touched self.now changes.now }
     {

@@ -242,6 +242,7 @@ impl Readings {
 
     /// Whether one of these changes, each given by its table's number and the row, may have changed what was read, by its own
     /// readings and the spans of the others.
+    #[inline(always)]
     pub fn are_touched(&self, changes: &[(usize, i64)]) -> bool
         ensures apart { result ≡ false → every (is_apart changes.now) self.now ≡ true }
     {

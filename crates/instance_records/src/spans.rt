@@ -149,6 +149,7 @@ impl Span {
     }
 
     // Whether the changed row, given by its table's number and its own, is one of these.
+    #[inline(always)]
     fn has(&self, change: &(usize, i64)) -> bool
         ensures has { result ≡ lies_in change.now self.now }
     {
@@ -253,6 +254,7 @@ pub(crate) fn put_pair(pair: &[Reading; 2], spans: &mut Vec<Span>) -> Result<(),
 }
 
 /// Whether one of the changed rows lies in one of the spans.
+#[inline(always)]
 pub(crate) fn are_touched(spans: &[Span], changes: &[(usize, i64)]) -> bool
     ensures touched { result ≡ is_touched spans.now changes.now }
 {
@@ -339,6 +341,7 @@ pub(crate) fn first_row(own: &[Reading], spans: &[Span]) -> Option<(usize, i64)>
     Some((usize::from(first.table), first.low))
 }
 
+#[inline(always)]
 fn has_one(span: &Span, changes: &[(usize, i64)]) -> bool
     ensures has { result ≡ list_any (λ c. lies_in c span.now) changes.now }
 {

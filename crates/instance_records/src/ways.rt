@@ -9,7 +9,7 @@ ghost use Rattle.record_theory.specs.Same.{is_read, same_note};
 
 use crate::readings::Node;
 use crate::spans::are_touched;
-use crate::touching::{are_own_touched, rests_on};
+use crate::touching::are_own_touched;
 use evaluation::reading::Reading;
 use std::slice;
 use std::sync::Arc;
@@ -26,7 +26,7 @@ pub(crate) const HERE: u64 = 1;
 /// No way.
 pub const NONE: u64 = 0;
 
-/// A cell's readings lie near the first that rests on the change of its row: so many are looked through.
+/// A cell's readings lie near the first of a cell of its row: so many are looked through.
 const NEAR: usize = 4;
 
 /// The way without its first turn: that of the part to which it leads, most often an instance with a record of its own.
@@ -133,14 +133,25 @@ fn node_of<'a>(parts: &'a [Arc<Node>], node: &'a Node, turns: u64) -> &'a Node
     node_by(&parts[place], turns / PARTS)
 }
 
-/// The place of the first of these readings that rests on the change, as soon as they are in the order of their rows.
+/// The place of the first of these readings that is of a cell of the changed row, as soon as they are in the order of their rows.
 pub fn first_touched(own: &[Reading], change: &(usize, i64)) -> usize {
     for place in first_behind(own, change.1)..own.len() {
-        if rests_on(&own[place], change) {
+        if is_cell_of(&own[place], change) {
             return place;
         }
     }
     own.len()
+}
+
+// Whether the reading is of a cell of that row, given by its table's number and its own.
+#[inline(always)]
+fn is_cell_of(reading: &Reading, change: &(usize, i64)) -> bool {
+    match reading {
+        Reading::Cell { table, row, .. } => {
+            i64::from(*row) == change.1 && usize::from(*table) == change.0
+        }
+        _ => false,
+    }
 }
 
 // The place behind all readings of rows before that one, where they are in the order of their rows.

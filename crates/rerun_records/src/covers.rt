@@ -65,6 +65,12 @@ impl Covers {
         }
     }
 
+    /// A cursor behind all records.
+    #[inline(always)]
+    pub(crate) fn cursor(&self) -> Cursor {
+        self.skips.cursor()
+    }
+
     // From which place on, up to that end, no record has read what the change may have changed, or that end: by the hull of an instance that
     // ends there, or else by the widest of a level, where none of an instance ends soon before.
     #[inline(always)]

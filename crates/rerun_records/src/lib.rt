@@ -12,4 +12,5 @@ mod listing;
 pub mod records;
 pub mod series;
 mod skips;
+mod spot;
 mod telling;

@@ -60,21 +60,12 @@ impl Model for Skips {
     ghost view = { λ s. record { done = s.done; skips = s.list.items } };
 }
 
-/// How many hulls don't end behind a place that was come to, and whether the hull that ends there has the row that was looked for.
+/// How many hulls end before a place that was come to, and whether the hull that ends there has the row that was looked for. Where it isn't
+/// right, hulls are passed by.
 #[derive(Drop)]
 pub(crate) struct Cursor {
     next: usize,
     pub(crate) is_around: bool,
-}
-
-impl Cursor {
-    /// Behind all hulls.
-    pub(crate) fn new() -> Cursor {
-        Cursor {
-            next: usize::MAX,
-            is_around: false,
-        }
-    }
 }
 
 impl Skip {
@@ -158,6 +149,15 @@ impl Skips {
             list: Vec::new(alloc),
             done: 0,
             owed: 0,
+        }
+    }
+
+    /// A cursor behind all hulls.
+    #[inline(always)]
+    pub(crate) fn cursor(&self) -> Cursor {
+        Cursor {
+            next: self.list.len(),
+            is_around: false,
         }
     }
 
@@ -326,18 +326,6 @@ fn add_all(skips: &mut Skips, alloc: Global, list: &[Record])
     }
 }
 
-// How many of so many hulls don't end behind that place.
-#[inline(always)]
-fn last_until(skips: &[Skip], end: usize, next: usize) -> usize
-    ensures few { result ≤ length skips.now }
-{
-    let mut number = next.min(skips.len());
-    while number > 0 && skips[number - 1].until() > end {
-        number -= 1;
-    }
-    number
-}
-
 // From which place on, up to that end, no record has read what the change may have changed, by the hull that ends there.
 #[inline(always)]
 fn apart_in(skips: &[Skip], end: usize, change: &(usize, i64), cursor: &mut Cursor) -> usize
@@ -346,21 +334,17 @@ fn apart_in(skips: &[Skip], end: usize, change: &(usize, i64), cursor: &mut Curs
         → PassBut [] records (record { done = done; skips = skips.now })
         → AreApart records change.now result end }
 {
-    if skips.is_empty() {
-        return end;
-    }
-    let number = last_until(skips, end, cursor.next);
-    cursor.next = number;
     cursor.is_around = false;
-    if number == 0 {
+    if cursor.next == 0 || cursor.next > skips.len() {
         return end;
     }
-    let first = apart_by(skips, number - 1, end, change);
-    go_on(skips, number - 1, first, end, cursor);
+    let number = cursor.next - 1;
+    let first = apart_by(skips, number, end, change);
+    go_on(skips, number, first, end, cursor);
     first
 }
 
-// Has the cursor go on behind the hull of that number, which has led from that end to that place.
+// Has the cursor go on before the hull of that number, where it has led from that end to that place, or ends there.
 #[inline(always)]
 fn go_on(skips: &[Skip], number: usize, first: usize, end: usize, cursor: &mut Cursor)
     requires within { number < length skips.now }
@@ -485,6 +469,9 @@ fn may_be_around(list: &[Record], place: usize) -> bool
         return false;
     }
     let reads = list[place].reads();
+    if reads.is_pair() {
+        return false;
+    }
     reads.reach(list[place - 1].reads()) && reads.reach(list[place - LEAST].reads())
 }
 

@@ -1,5 +1,5 @@
 // How the change of a row changes the numbers of records.
-ghost use Rattle.std.specs.Prelude.{◌≡◌, ◌≤◌, ◌<◌, ◌+◌, ◌++◌, ◌∷◌, [], ℕ, ℤ, IfSome, length, map, not, true, false, slice_set, Some};
+ghost use Rattle.std.specs.Prelude.{◌≡◌, ◌≤◌, ◌<◌, ◌+◌, ◌++◌, ◌∷◌, [], ℕ, ℤ, IfSome, length, map, not, true, false, slice_set, cond, Some};
 ghost use Rattle.meaning.specs.Every.{every};
 ghost use Rattle.rerun_records.specs.Blocks.{BlocksFit};
 ghost use Rattle.record_theory.specs.InStep.{is_apart};
@@ -11,10 +11,12 @@ ghost use Rattle.rerun_records.specs.Covers.{AreApart, AreCovered};
 ghost use Rattle.record_theory.specs.Numbers.{number_then, numbers_then, with_numbers};
 ghost use Rattle.record_theory.specs.OneTime.{AreOfOneTime, IsOfOneTime};
 ghost use Rattle.record_theory.specs.Same.{is_read, same_note};
+ghost use Rattle.rerun_records.specs.Spots.{HasNoSums, IsSpot};
 
 use crate::blocks::Blocks;
 use crate::covers::Covers;
 use crate::skips::Cursor;
+use crate::spot::{Spot, spot_of};
 use evaluation::note::Note;
 use evaluation::reading::Reading;
 use instance_records::narrowing::how_many_own;
@@ -44,15 +46,15 @@ pub(crate) fn tell(
     ensures places { length numbers.new ≡ length list.now }
     ensures fit { BlocksFit (with_numbers numbers.new list.now) blocks.new }
 {
-    let mut cursor = Cursor::new();
+    let mut cursor = covers.cursor();
     match covers.next_touched(list, list.len(), change, &mut cursor) {
         Some(place) => {
-            let is_of_cells = are_of_cells(lost) && are_of_cells(won);
             let edit = Edit {
                 change,
                 lost,
                 won,
-                is_of_cells,
+                is_of_cells: are_of_cells(lost) && are_of_cells(won),
+                spot: spot_of(lost, won),
             };
             tell_from(numbers, blocks, list, covers, place, &mut cursor, edit);
         }
@@ -60,13 +62,15 @@ pub(crate) fn tell(
     }
 }
 
-// A change of a row, with the readings that don't hold any more and those that hold again, and whether these are of cells and sums alone.
+// A change of a row, with the readings that don't hold any more and those that hold again, whether these are of cells and sums alone, and the
+// cell, where they are of one.
 #[derive(Clone, Copy)]
 struct Edit<'a> {
     change: &'a (usize, i64),
     lost: &'a [Note],
     won: &'a [Note],
     is_of_cells: bool,
+    spot: Option<Spot>,
 }
 
 // Whether these are readings of cells and sums alone.
@@ -99,6 +103,7 @@ fn tell_from(
     requires covered { AreCovered list.now covers.now }
     requires once { AreOfOneTime list.now }
     requires apart { AreApart list.now edit.change.now (place + 1) (length list.now) }
+    requires spot { IfSome edit.spot (λ s. IsSpot s edit.lost.now edit.won.now) }
     ensures told { numbers.new ≡ numbers_then edit.entry.lost.now edit.entry.won.now numbers.old list.now }
     ensures places { length numbers.new ≡ length list.now }
     ensures fit { BlocksFit (with_numbers numbers.new list.now) blocks.new }
@@ -145,6 +150,7 @@ struct Counted<'a> {
 fn first_counts<'a>(reads: &'a Readings, edit: Edit<'_>, way: Way) -> Counted<'a>
     requires rest { every (λ n. not (is_apart (edit.change.now ∷ []) n)) (edit.lost.now ++ edit.won.now) ≡ true }
     requires once { IsOfOneTime reads.now }
+    requires spot { IfSome edit.spot (λ s. IsSpot s edit.lost.now edit.won.now) }
     ensures more { result.more ≡ how_many same_note edit.entry.lost.now reads.now }
     ensures fewer { result.fewer ≡ how_many same_note edit.entry.won.now reads.now }
     ensures few { result.more ≤ length edit.entry.lost.now }
@@ -235,6 +241,7 @@ fn told_by_way(
         → known.fewer ≡ how_many same_note edit.won.now (map note_of known.own.now) }
     requires few { known.more ≤ length edit.lost.now }
     requires once { IsOfOneTime reads.now }
+    requires spot { IfSome edit.spot (λ s. IsSpot s edit.lost.now edit.won.now) }
     ensures told { result ≡ number_then edit.entry.lost.now edit.entry.won.now number reads.now }
 {
     way.turns = behind_first(way.turns);
@@ -251,14 +258,68 @@ fn told_by_way(
 #[inline(always)]
 fn counts_by(reads: &Readings, edit: Edit<'_>, way: Way) -> Option<(u64, u64)>
     requires once { IsOfOneTime reads.now }
+    requires spot { IfSome edit.spot (λ s. IsSpot s edit.lost.now edit.won.now) }
     ensures more { IfSome result (λ counts. counts.0 ≡ how_many same_note edit.entry.lost.now reads.now) }
     ensures fewer { IfSome result (λ counts. counts.1 ≡ how_many same_note edit.entry.won.now reads.now) }
     ensures few { IfSome result (λ counts. counts.0 ≤ length edit.entry.lost.now) }
 {
     let own = reads.own_by(way.turns);
-    let sums = reads.may_have_sums();
-    let more = count_by(reads, own, way.first, sums, edit.lost)?;
-    let fewer = count_by(reads, own, way.first, sums, edit.won)?;
+    if reads.may_have_sums() {
+        return counts_of(reads, own, way.first, true, edit);
+    }
+    match edit.spot {
+        Some(spot) => counts_at(reads, own, way.first, spot, edit),
+        None => counts_of(reads, own, way.first, false, edit),
+    }
+}
+
+// The same, where all is of one cell and of sums, which weren't read.
+#[inline(always)]
+fn counts_at(
+    reads: &Readings,
+    own: &[Reading],
+    first: usize,
+    spot: Spot,
+    edit: Edit<'_>,
+) -> Option<(u64, u64)>
+    requires once { IsOfOneTime reads.now }
+    requires none { HasNoSums reads.now }
+    requires within { (note : PlainNote) → is_read (map note_of own.now) note ≡ true → is_read reads.now note ≡ true }
+    requires spot { IsSpot spot edit.lost.now edit.won.now }
+    ensures more { IfSome result (λ counts. counts.0 ≡ how_many same_note edit.entry.lost.now reads.now) }
+    ensures fewer { IfSome result (λ counts. counts.1 ≡ how_many same_note edit.entry.won.now reads.now) }
+    ensures few { IfSome result (λ counts. counts.0 ≤ length edit.entry.lost.now) }
+{
+    let held = value_near(own, first, spot.table, spot.row, spot.column)?;
+    Some((one_if(held == spot.was), one_if(held == spot.now)))
+}
+
+// One where it is so.
+#[inline(always)]
+fn one_if(is_so: bool) -> u64
+    ensures one { result ≡ cond is_so 1 0 }
+{
+    if is_so { 1 } else { 0 }
+}
+
+// The same of whatever readings.
+#[inline(never)]
+fn counts_of(
+    reads: &Readings,
+    own: &[Reading],
+    first: usize,
+    sums: bool,
+    edit: Edit<'_>,
+) -> Option<(u64, u64)>
+    requires once { IsOfOneTime reads.now }
+    requires none { sums ≡ false → (table column : ℕ) (value : ℤ) → is_read reads.now (Sum table column value) ≡ false }
+    requires within { (note : PlainNote) → is_read (map note_of own.now) note ≡ true → is_read reads.now note ≡ true }
+    ensures more { IfSome result (λ counts. counts.0 ≡ how_many same_note edit.entry.lost.now reads.now) }
+    ensures fewer { IfSome result (λ counts. counts.1 ≡ how_many same_note edit.entry.won.now reads.now) }
+    ensures few { IfSome result (λ counts. counts.0 ≤ length edit.entry.lost.now) }
+{
+    let more = count_by(reads, own, first, sums, edit.lost)?;
+    let fewer = count_by(reads, own, first, sums, edit.won)?;
     Some((more, fewer))
 }
 
