@@ -1,5 +1,5 @@
 -- Where no sum was read, an edit of one cell counts where that cell was read.
-use Rattle.std.proofs.Common.{◌≡◌, ◌≤◌, ◌-◌, ℕ, zero, suc, ℤ, Bool, true, false, true≢false, List, [], ◌∷◌, Option, Some, None, IfSome, length, take, drop, refl, sym, ap, ◌∙◌, subst, arith, cond}
+use Rattle.std.proofs.Common.{◌≡◌, ◌≤◌, ◌-◌, ℕ, suc, ℤ, Bool, true, false, true≢false, List, [], ◌∷◌, Option, Some, None, IfSome, length, take, drop, refl, sym, ap, ◌∙◌, subst, arith, cond}
 use Rattle.std.proofs.Math.Seq.{take-length}
 use Rattle.std.specs.Prelude.{slice_get}
 use Rattle.std.specs.Ordering.{int_eq}

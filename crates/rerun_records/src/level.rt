@@ -60,6 +60,7 @@ impl Level {
     }
 
     /// Drops the block that has the record at that place as part, if there is one.
+    #[inline(always)]
     pub(crate) fn drop_at(&mut self, place: usize, due: &mut Due)
         ensures remain { Remain self.new self.old }
         ensures free { IsFree place self.new }
@@ -97,6 +98,7 @@ fn numbered(blocks: &[Option<Block>], number: usize) -> Option<&Block>
 }
 
 // Drops the block that has the record at that place as part, if there is one.
+#[inline(always)]
 fn drop_home(blocks: &mut Vec<Option<Block>>, homes: &[u32], place: usize, due: &mut Due)
     requires housed { AreHoused homes.now blocks.old.items }
     ensures remain { Remain blocks.new.items blocks.old.items }
@@ -110,6 +112,7 @@ fn drop_home(blocks: &mut Vec<Option<Block>>, homes: &[u32], place: usize, due: 
 }
 
 // Drops the block of that number, and notes that one of its records is due.
+#[inline(never)]
 fn drop_numbered(blocks: &mut Vec<Option<Block>>, number: usize, due: &mut Due)
     ensures dropped { blocks.new.items ≡ slice_set blocks.old.items number None }
     ensures count { length blocks.new.items ≡ length blocks.old.items }

@@ -109,8 +109,9 @@ fn tell_from(
     ensures fit { BlocksFit (with_numbers numbers.new list.now) blocks.new }
 {
     let reads = list[place].reads();
-    let mut way = way_to(reads, edit);
-    let known = first_counts(reads, edit, way);
+    let led = way_to(reads, edit);
+    let mut way = led.way;
+    let known = first_counts(reads, led.own, way.first, edit);
     let number = number_after(numbers[place], known.more, known.fewer);
     renumber(numbers, blocks, list, place, number);
     let mut end = place;
@@ -145,9 +146,15 @@ struct Counted<'a> {
     fewer: u64,
 }
 
-// Counts those of the record that has read that, by the way where it leads to a reading of each cell.
+// Counts those of the record that has read that, by its way where it leads to a reading of each cell.
 #[inline(always)]
-fn first_counts<'a>(reads: &'a Readings, edit: Edit<'_>, way: Way) -> Counted<'a>
+fn first_counts<'a>(
+    reads: &'a Readings,
+    own: &[Reading],
+    first: usize,
+    edit: Edit<'_>,
+) -> Counted<'a>
+    requires within { (note : PlainNote) → is_read (map note_of own.now) note ≡ true → is_read reads.now note ≡ true }
     requires rest { every (λ n. not (is_apart (edit.change.now ∷ []) n)) (edit.lost.now ++ edit.won.now) ≡ true }
     requires once { IsOfOneTime reads.now }
     requires spot { IfSome edit.spot (λ s. IsSpot s edit.lost.now edit.won.now) }
@@ -159,7 +166,7 @@ fn first_counts<'a>(reads: &'a Readings, edit: Edit<'_>, way: Way) -> Counted<'a
     ensures own_fewer { result.is_known ≡ true
         → result.fewer ≡ how_many same_note edit.entry.won.now (map note_of result.own.now) }
 {
-    match counts_by(reads, edit, way) {
+    match counts_by(reads, own, first, edit) {
         Some((more, fewer)) => Counted {
             own: &[],
             is_known: false,
@@ -213,15 +220,28 @@ struct Way {
     first: usize,
 }
 
+// A way, and the readings to which it leads.
+#[derive(Clone, Copy)]
+struct Led<'a> {
+    way: Way,
+    own: &'a [Reading],
+}
+
 // The way from there to what rests on the change of an edit of cells.
-fn way_to(reads: &Readings, edit: Edit<'_>) -> Way {
+fn way_to<'a>(reads: &'a Readings, edit: Edit<'_>) -> Led<'a>
+    ensures within { (note : PlainNote) → is_read (map note_of result.own.now) note ≡ true → is_read reads.now note ≡ true }
+{
     let turns = if edit.is_of_cells {
         reads.way_to(edit.change)
     } else {
         NONE
     };
-    let first = first_touched(reads.own_by(turns), edit.change);
-    Way { turns, first }
+    let own = reads.own_by(turns);
+    let first = first_touched(own, edit.change);
+    Led {
+        way: Way { turns, first },
+        own,
+    }
 }
 
 // The number that a record has then. The one told before it was mostly of the instance around its own, so the way from there goes on from
@@ -245,35 +265,83 @@ fn told_by_way(
     ensures told { result ≡ number_then edit.entry.lost.now edit.entry.won.now number reads.now }
 {
     way.turns = behind_first(way.turns);
-    match counts_by(reads, edit, *way) {
+    let own = reads.own_by(way.turns);
+    match counts_near(reads, own, way.first, edit) {
+        Some((more, fewer)) => number_after(number, more, fewer),
+        None => told_otherwise(number, reads, own, edit, known, way),
+    }
+}
+
+// The same, where more than one cell was changed or the way leads elsewhere.
+#[inline(never)]
+fn told_otherwise(
+    number: u32,
+    reads: &Readings,
+    own: &[Reading],
+    edit: Edit<'_>,
+    known: Counted<'_>,
+    way: &mut Way,
+) -> u32
+    requires rest { every (λ n. not (is_apart (edit.change.now ∷ []) n)) (edit.lost.now ++ edit.won.now) ≡ true }
+    requires within { (note : PlainNote) → is_read (map note_of own.now) note ≡ true → is_read reads.now note ≡ true }
+    requires own { known.is_known ≡ true
+        → known.more ≡ how_many same_note edit.lost.now (map note_of known.own.now) }
+    requires own_fewer { known.is_known ≡ true
+        → known.fewer ≡ how_many same_note edit.won.now (map note_of known.own.now) }
+    requires few { known.more ≤ length edit.lost.now }
+    requires once { IsOfOneTime reads.now }
+    ensures told { result ≡ number_then edit.entry.lost.now edit.entry.won.now number reads.now }
+{
+    match counts_of(reads, own, way.first, reads.may_have_sums(), edit) {
         Some((more, fewer)) => number_after(number, more, fewer),
         None => {
-            *way = way_to(reads, edit);
+            *way = way_to(reads, edit).way;
             told(number, reads, edit.change, edit.lost, edit.won, known)
         }
     }
 }
 
-// How many of the lost and of the won readings there are, where the way leads to a reading of each cell.
+// How many of the lost and of the won readings there are, where a reading of each cell lies among the own ones from that place on.
 #[inline(always)]
-fn counts_by(reads: &Readings, edit: Edit<'_>, way: Way) -> Option<(u64, u64)>
+fn counts_by(reads: &Readings, own: &[Reading], first: usize, edit: Edit<'_>) -> Option<(u64, u64)>
     requires once { IsOfOneTime reads.now }
+    requires within { (note : PlainNote) → is_read (map note_of own.now) note ≡ true → is_read reads.now note ≡ true }
     requires spot { IfSome edit.spot (λ s. IsSpot s edit.lost.now edit.won.now) }
     ensures more { IfSome result (λ counts. counts.0 ≡ how_many same_note edit.entry.lost.now reads.now) }
     ensures fewer { IfSome result (λ counts. counts.1 ≡ how_many same_note edit.entry.won.now reads.now) }
     ensures few { IfSome result (λ counts. counts.0 ≤ length edit.entry.lost.now) }
 {
-    let own = reads.own_by(way.turns);
-    if reads.may_have_sums() {
-        return counts_of(reads, own, way.first, true, edit);
-    }
-    match edit.spot {
-        Some(spot) => counts_at(reads, own, way.first, spot, edit),
-        None => counts_of(reads, own, way.first, false, edit),
+    match counts_near(reads, own, first, edit) {
+        Some((more, fewer)) => Some((more, fewer)),
+        None => counts_of(reads, own, first, reads.may_have_sums(), edit),
     }
 }
 
-// The same, where all is of one cell and of sums, which weren't read.
+// The same, where one cell was changed, and no sum was read.
+#[inline(always)]
+fn counts_near(
+    reads: &Readings,
+    own: &[Reading],
+    first: usize,
+    edit: Edit<'_>,
+) -> Option<(u64, u64)>
+    requires once { IsOfOneTime reads.now }
+    requires within { (note : PlainNote) → is_read (map note_of own.now) note ≡ true → is_read reads.now note ≡ true }
+    requires spot { IfSome edit.spot (λ s. IsSpot s edit.lost.now edit.won.now) }
+    ensures more { IfSome result (λ counts. counts.0 ≡ how_many same_note edit.entry.lost.now reads.now) }
+    ensures fewer { IfSome result (λ counts. counts.1 ≡ how_many same_note edit.entry.won.now reads.now) }
+    ensures few { IfSome result (λ counts. counts.0 ≤ length edit.entry.lost.now) }
+{
+    if reads.may_have_sums() {
+        return None;
+    }
+    match edit.spot {
+        Some(spot) => counts_at(reads, own, first, spot, edit),
+        None => None,
+    }
+}
+
+// The same, of that cell.
 #[inline(always)]
 fn counts_at(
     reads: &Readings,
