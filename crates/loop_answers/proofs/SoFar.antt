@@ -1,5 +1,6 @@
 -- What a search has found so far answers the iterations of its loop.
-use Rattle.std.proofs.Common.{◌≡◌, ℕ, ◌==◌, false, true, List, sym, subst}
+use Rattle.std.proofs.Common.{◌≡◌, ℕ, ◌==◌, false, true, ℤ, List, [], sym, subst}
+use Rattle.evaluation.specs.declared.slot.Slot.{Slot}
 use Rattle.linked_program.specs.CodeView.{memo_of}
 use Rattle.rerun_records.specs.declared.batch.Batch.{Batch}
 use Rattle.positions.specs.declared.work.Loop.{Loop}
@@ -8,6 +9,9 @@ use Rattle.positions.specs.Activations.{PlainActivation}
 use Rattle.positions.specs.Code.{PlainLoop, loop_at}
 use Rattle.answered_loops.specs.Answered.{IsOfMemo}
 use Rattle.loop_answers.specs.Batches.{AreBatches, HasBatches}
+
+pub none_so_far : (S : Setting) (j : PlainLoop) (slots : List Slot) (left : ℕ) (low : ℤ) (i : ℕ) → AreBatches S j slots left low i []
+none_so_far S j slots left low i = record { parts = []; sums = tt; answers = tt }
 
 pub has_so_far : (S : Setting) (l : Loop) (a : PlainActivation) (j : PlainLoop) (i : ℕ) (bs qs : List Batch)
     → j ≡ loop_at S.codes a.procedure l → memo_of S.codes j.callee ≡ true → (a.left == 0) ≡ false

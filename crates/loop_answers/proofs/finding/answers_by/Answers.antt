@@ -1,11 +1,12 @@
-use Rattle.std.proofs.Common.{rules, to_z, of_z, w64, ◌≡◌, ◌+◌, ◌-◌, ◌≤◌, ◌+ℤ◌, ℤ, pos, List, [], ◌∷◌, ◌++◌, map, IfSome, refl, sym, ap, ◌∙◌, subst, arith}
+use Rattle.std.proofs.Common.{rules, to_z, of_z, w64, ◌≡◌, ℕ, ◌+◌, ◌-◌, ◌≤◌, ◌+ℤ◌, ℤ, pos, List, [], ◌∷◌, ◌++◌, Option, map, IfSome, refl, sym, ap, ◌∙◌, subst, arith}
+use Rattle.meaning.specs.Elision.{depth_limit}
 use Rattle.linked_program.specs.CodeView.{expression as plain}
 use Rattle.rerun_records.specs.declared.batch.Batch.{Batch}
 use Rattle.positions.specs.Strands.{PlainStrand}
 use Rattle.activations.specs.Given.{lent, loop_of}
-use Rattle.loop_answers.specs.Batches.{instances_in, AreBatches, IsBatchFrom, AreArguments}
+use Rattle.loop_answers.specs.Batches.{instances_in, AreBatches, IsBatchFrom, CountsAt, AreArguments}
 use Rattle.loop_answers.proofs.Batches.{instances_more, batches_more}
-use Rattle.loop_answers.proofs.SoFar.{has_so_far}
+use Rattle.loop_answers.proofs.SoFar.{none_so_far, has_so_far}
 use Rattle.loop_answers.proofs.finding.answers_by.Goals as goal
 
 pub loop-preserved : goal.loop-preserved
@@ -91,3 +92,57 @@ returns-clause-count g c =
 
 pub returns-clause-few : goal.returns-clause-few
 returns-clause-few g c = omega (arith, c.found_so_far-2.ensures.count, c.loop.invariant.few, c.loop.invariant.most)
+
+pub returns-then-is_err-clause-answers : goal.returns-then-is_err-clause-answers
+returns-then-is_err-clause-answers g c =
+    let kept : c.put_batch.new.batches.items ≡ c.loop.batches.items = search rules in
+    has_so_far (lent c.args.setting) c.args.turns.site c.args.machine.now.top (loop_of c.args.code) c.args.turns.share.first c.loop.batches.items c.found_so_far-then-is_err.result.batches.items
+    c.requires.code c.in_ok-depth.ensures.memo c.in_ok-depth.ensures.room (rw c.found_so_far-then-is_err.ensures.batches kept) c.loop.invariant.batches
+
+pub returns-then-is_err-clause-count : goal.returns-then-is_err-clause-count
+returns-then-is_err-clause-count g c =
+    let kept : c.put_batch.new.batches.items ≡ c.loop.batches.items = search rules in
+    let is : c.found_so_far-then-is_err.result.batches.items ≡ c.loop.batches.items = rw c.found_so_far-then-is_err.ensures.batches kept in
+    c.found_so_far-then-is_err.ensures.count ∙ c.loop.invariant.count ∙ sym (ap instances_in is)
+
+pub returns-then-is_err-clause-few : goal.returns-then-is_err-clause-few
+returns-then-is_err-clause-few g c = omega (arith, c.found_so_far-then-is_err.ensures.count, c.loop.invariant.few, c.loop.invariant.most)
+
+pub loop-init : goal.loop-init
+loop-init g c =
+    record {
+      same = c.is_stale-is_stale.ensures.unchanged ∙ c.counted_from-counted.ensures.unchanged;
+      known = subst (λ (o : Option ℕ). IfSome o (λ place. AreArguments c.args.setting.tables.now.tables c.args.machine.now.top.slots c.args.code.variable (map plain c.args.code.arguments.now) c.is_stale-is_stale.new.numbers.items)) c.first_ahead-first.ensures.counted
+          (subst (λ (x : PlainStrand). IfSome c.first_ahead-first.result.counted (λ place. AreArguments c.args.setting.tables.now.tables x.top.slots c.args.code.variable (map plain c.args.code.arguments.now) c.is_stale-is_stale.new.numbers.items)) c.counted_from-counted.ensures.unchanged c.is_stale-is_stale.ensures.known);
+      count = sym (ap instances_in c.new-batches.ensures.items);
+      few = omega arith;
+      most = c.most_asked-most.ensures.few;
+      batches = subst (λ (bs : List Batch). AreBatches (lent c.args.setting) (loop_of c.args.code) c.args.machine.now.top.slots c.args.machine.now.top.left c.args.turns.site.low c.args.turns.share.first bs)
+          (sym c.new-batches.ensures.items) (none_so_far (lent c.args.setting) (loop_of c.args.code) c.args.machine.now.top.slots c.args.machine.now.top.left c.args.turns.site.low c.args.turns.share.first);
+    }
+
+pub batch_from-requires-clause-known : goal.batch_from-requires-clause-known
+batch_from-requires-clause-known g c κs within =
+    subst (λ (x : PlainStrand). IfSome c.counted_from-counted.result (λ place. AreArguments c.args.setting.tables.now.tables x.top.slots c.args.code.variable (map plain c.args.code.arguments.now) c.loop.numbers.items)) (sym c.loop.invariant.same) c.loop.invariant.known
+
+pub batch_from-requires-clause-counted : goal.batch_from-requires-clause-counted
+batch_from-requires-clause-counted g c κs within =
+    subst (λ (x : PlainStrand). IfSome c.counted_from-counted.result (CountsAt x.top.slots c.args.code.variable (map plain c.args.code.arguments.now))) (sym c.loop.invariant.same) c.counted_from-counted.ensures.counted
+
+pub batch_from-requires-clause-depth : goal.batch_from-requires-clause-depth
+batch_from-requires-clause-depth g c κs within =
+    subst (λ (x : PlainStrand). c.in_ok-depth.depth ≡ depth_limit - (x.top.left - 1)) (sym c.loop.invariant.same) c.in_ok-depth.ensures.depth
+
+pub is_stale-is_stale-requires-clause-known : goal.is_stale-is_stale-requires-clause-known
+is_stale-is_stale-requires-clause-known g c κs within =
+    subst (λ (o : Option ℕ). IfSome o (λ place. AreArguments c.args.setting.tables.now.tables c.counted_from-counted.new.machine.top.slots c.args.code.variable (map plain c.args.code.arguments.now) c.counted_from-counted.new.numbers.items)) (sym c.first_ahead-first.ensures.counted)
+    (subst (λ (x : PlainStrand). IfSome c.counted_from-counted.result (λ place. AreArguments c.args.setting.tables.now.tables x.top.slots c.args.code.variable (map plain c.args.code.arguments.now) c.counted_from-counted.new.numbers.items)) (sym c.counted_from-counted.ensures.unchanged) c.counted_from-counted.ensures.known)
+
+pub is_stale-is_stale-requires-clause-counted : goal.is_stale-is_stale-requires-clause-counted
+is_stale-is_stale-requires-clause-counted g c κs within =
+    subst (λ (o : Option ℕ). IfSome o (CountsAt c.counted_from-counted.new.machine.top.slots c.args.code.variable (map plain c.args.code.arguments.now))) (sym c.first_ahead-first.ensures.counted)
+    (subst (λ (x : PlainStrand). IfSome c.counted_from-counted.result (CountsAt x.top.slots c.args.code.variable (map plain c.args.code.arguments.now))) (sym c.counted_from-counted.ensures.unchanged) c.counted_from-counted.ensures.counted)
+
+pub is_stale-is_stale-requires-clause-depth : goal.is_stale-is_stale-requires-clause-depth
+is_stale-is_stale-requires-clause-depth g c κs within =
+    c.first_ahead-first.ensures.depth ∙ subst (λ (x : PlainStrand). c.in_ok-depth.depth ≡ depth_limit - (x.top.left - 1)) (sym c.counted_from-counted.ensures.unchanged) c.in_ok-depth.ensures.depth
