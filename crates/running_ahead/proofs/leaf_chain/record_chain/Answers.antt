@@ -1,11 +1,11 @@
-use Rattle.std.proofs.Common.{rules, ◌≡◌, ◌+◌, ◌-◌, ◌+ℤ◌, ℕ, ℤ, pos, true, refl, ap, ◌∙◌, subst, to_z, of_z, w64}
+use Rattle.std.proofs.Common.{rules, arith, ◌≡◌, ◌<◌, ◌+◌, ◌-◌, ◌+ℤ◌, ℕ, suc, ℤ, pos, true, false, List, ◌∷◌, length, refl, sym, ap, ◌∙◌, subst, to_z, of_z, w64}
 use Rattle.linked_program.specs.CodeView.{slots_of}
 use Rattle.positions.specs.Code.{PlainLoop}
 use Rattle.positions.specs.Strands.{PlainStrand}
-use Rattle.positions.specs.Tallies.{PlainTally}
+use Rattle.positions.specs.Tallies.{PlainOpened, PlainTally}
 use Rattle.activations.specs.Given.{lent, loop_of}
 use Rattle.activations.specs.Turned.{behind}
-use Rattle.running_ahead.specs.Leaves.{IsLeaf, none, gathered_of}
+use Rattle.running_ahead.specs.Leaves.{IsLeaf, AreRecorded, none, gathered_of, arguments_then}
 use Rattle.running_ahead.proofs.LeafChains.{leaf_of, one_more}
 use Rattle.running_ahead.proofs.leaf_chain.record_chain.Goals as goal
 
@@ -47,3 +47,88 @@ loop-done-preserved g c =
       kinds = c.record_leaf.ensures.kinds ∙ c.loop-done.invariant.kinds;
       values = λ h. c.record_leaf.ensures.values (c.loop-done.invariant.values h);
     }
+
+pub returns-then-is_answered-clause-records : goal.returns-then-is_answered-clause-records
+returns-then-is_answered-clause-records g c =
+    c.loop-done.invariant.records
+
+pub returns-then-is_answered-clause-others : goal.returns-then-is_answered-clause-others
+returns-then-is_answered-clause-others g c =
+    c.loop-done.invariant.others
+
+pub returns-then-is_answered-clause-opened : goal.returns-then-is_answered-clause-opened
+returns-then-is_answered-clause-opened g c =
+    c.loop-done.invariant.opened
+
+pub returns-then-is_answered-clause-some : goal.returns-then-is_answered-clause-some
+returns-then-is_answered-clause-some g c =
+    let more : c.loop-done.done < c.args.stretch.most = c.loop-done-test.true in omega (arith, more)
+
+pub returns-then-is_answered-clause-kit : goal.returns-then-is_answered-clause-kit
+returns-then-is_answered-clause-kit g c =
+    c.loop-done.invariant.kit
+
+pub returns-then-is_answered-clause-kinds : goal.returns-then-is_answered-clause-kinds
+returns-then-is_answered-clause-kinds g c =
+    c.loop-done.invariant.kinds
+
+pub returns-then-is_answered-clause-values : goal.returns-then-is_answered-clause-values
+returns-then-is_answered-clause-values g c h =
+    c.loop-done.invariant.values h
+
+pub returns-in-Ok-false-default-clause-records : goal.returns-in-Ok-false-default-clause-records
+returns-in-Ok-false-default-clause-records g c =
+    let m : PlainStrand = c.args.machine.now in
+    let x = c.args.stretch in
+    let isnt : c.in-Ok-false-default.field-0-0 ≡ false = search rules in
+    let same : c.record_leaf.new.machine ≡ c.loop-done.machine = c.in-Ok-false-default.ensures.same isnt in
+    subst (λ (z : PlainStrand). AreRecorded (lent c.args.setting) x.site m.top.procedure m.top.slots m.top.left x.share.first (gathered_of m m.arguments) c.loop-done.done (gathered_of z (arguments_then c.loop-done.done x.site x.share m.arguments))) (sym same) c.loop-done.invariant.records
+
+pub returns-in-Ok-false-default-clause-others : goal.returns-in-Ok-false-default-clause-others
+returns-in-Ok-false-default-clause-others g c =
+    let m : PlainStrand = c.args.machine.now in
+    let isnt : c.in-Ok-false-default.field-0-0 ≡ false = search rules in
+    let same : c.record_leaf.new.machine ≡ c.loop-done.machine = c.in-Ok-false-default.ensures.same isnt in
+    subst (λ (z : PlainStrand). z ≡ record m { layer = z.layer; tally = z.tally }) (sym same) c.loop-done.invariant.others
+
+pub returns-in-Ok-false-default-clause-opened : goal.returns-in-Ok-false-default-clause-opened
+returns-in-Ok-false-default-clause-opened g c =
+    let isnt : c.in-Ok-false-default.field-0-0 ≡ false = search rules in
+    let same : c.record_leaf.new.machine ≡ c.loop-done.machine = c.in-Ok-false-default.ensures.same isnt in
+    ap (λ (z : PlainStrand). z.tally.opened) same ∙ c.loop-done.invariant.opened
+
+pub returns-in-Ok-false-default-clause-some : goal.returns-in-Ok-false-default-clause-some
+returns-in-Ok-false-default-clause-some g c =
+    let more : c.loop-done.done < c.args.stretch.most = c.loop-done-test.true in omega (arith, more)
+
+pub returns-in-Ok-false-default-clause-kit : goal.returns-in-Ok-false-default-clause-kit
+returns-in-Ok-false-default-clause-kit g c =
+    c.in-Ok-false-default.ensures.kit
+
+pub returns-in-Ok-false-default-clause-kinds : goal.returns-in-Ok-false-default-clause-kinds
+returns-in-Ok-false-default-clause-kinds g c =
+    c.record_leaf.ensures.kinds ∙ c.loop-done.invariant.kinds
+
+pub returns-in-Ok-false-default-clause-values : goal.returns-in-Ok-false-default-clause-values
+returns-in-Ok-false-default-clause-values g c h =
+    c.record_leaf.ensures.values (c.loop-done.invariant.values h)
+
+pub returns-in-Err-clause-refused : goal.returns-in-Err-clause-refused
+returns-in-Err-clause-refused g c =
+    let r = c.in-Err.ensures.refused in
+    record {
+      below = r.below;
+      lower = r.lower ∙ ap (λ (s : PlainStrand). r.below ∷ s.lower) c.loop-done.invariant.others;
+      below_kinds = r.below_kinds ∙ c.loop-done.invariant.kinds;
+      kinds = r.kinds ∙ c.loop-done.invariant.kinds;
+      opened = r.opened ∙ ap (λ (o : List PlainOpened). suc (length o)) c.loop-done.invariant.opened;
+      phase = r.phase ∙ ap (λ (s : PlainStrand). s.phase) c.loop-done.invariant.others;
+    }
+
+pub returns-in-Err-clause-kinds : goal.returns-in-Err-clause-kinds
+returns-in-Err-clause-kinds g c =
+    c.record_leaf.ensures.kinds ∙ c.loop-done.invariant.kinds
+
+pub returns-in-Err-clause-values : goal.returns-in-Err-clause-values
+returns-in-Err-clause-values g c h =
+    c.record_leaf.ensures.values (c.loop-done.invariant.values h)
