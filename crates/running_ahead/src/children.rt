@@ -187,7 +187,11 @@ fn is_found_at_once<V: View>(
     ensures unchanged { result ≡ false → machine.new ≡ machine.old }
     ensures running { machine.new.phase ≡ Phase.Running }
 {
-    if machine.top.procedure() != callee.procedure {
+    if machine.top.procedure() != callee.procedure || is_spawn(callee.way) {
+        return false;
+    }
+    // (an instance that has spawned isn't of such a procedure)
+    if machine.top.waiting().spawned {
         return false;
     }
     find_at_once(machine, setting, callee, body)
