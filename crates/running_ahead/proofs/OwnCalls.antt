@@ -1,6 +1,6 @@
 -- Instances of a procedure that calls itself: the small steps of their statements, and of a call.
-use Rattle.std.proofs.Common.{◌≡◌, ◌∙◌, ◌++◌, ◌∷◌, [], ◌+◌, ◌-◌, ◌<◌, ◌≤◌, ◌==◌, ℕ, zero, suc, ℤ, pos, Bool, true, false, List, Option, Some, None, Ok, length, map, max, min, take, replicate, if◌then◌else◌, slice_set, slice_get, refl, sym, ap, subst, arith, append_assoc}
-use Rattle.std.proofs.lemmas.List.{append-nil, take-replicate, length-append}
+use Rattle.std.proofs.Common.{◌≡◌, ◌∙◌, ◌++◌, ◌∷◌, [], ◌+◌, ◌-◌, ◌<◌, ◌≤◌, ◌==◌, ℕ, zero, suc, ℤ, pos, Bool, true, false, List, Option, Some, None, Ok, length, map, max, min, take, replicate, if◌then◌else◌, slice_set, slice_get, add-one, refl, sym, ap, subst, arith, append_assoc}
+use Rattle.std.proofs.lemmas.List.{append-nil, take-replicate, length-append, map-append}
 use Rattle.meaning.specs.declared.tree.Way.{Way}
 use Rattle.meaning.specs.declared.tree.Way.TheVariants.{Call}
 use Rattle.meaning.specs.declared.FaultKind.TheVariants.{TooDeep}
@@ -25,7 +25,7 @@ use Rattle.evaluation.specs.Values.{NumberedOut, pure, value_at, values_at, entr
 use Rattle.positions.specs.declared.phase.Phase.TheVariants.{Running, Returning, Leaving, Entering}
 use Rattle.positions.specs.declared.work.Position.{Position}
 use Rattle.positions.specs.declared.work.Work.{Work}
-use Rattle.positions.specs.declared.work.Work.TheVariants.{Block}
+use Rattle.positions.specs.declared.work.Work.TheVariants.{Block, Over}
 use Rattle.positions.specs.Activations.{PlainActivation, bound, waiting, with_slot, next_of, first_of, made, inside}
 use Rattle.positions.specs.Code.{instruction_inside}
 use Rattle.positions.specs.Layers.{PlainLayer, kept_behind, noting, entering}
@@ -41,7 +41,7 @@ use Rattle.running_ahead.proofs.Paths.{way_of, enter_ahead}
 use Rattle.running_ahead.specs.Ahead.{IsAhead, GoesAhead}
 use Rattle.running_ahead.specs.declared.recursion.Found.{Found}
 use Rattle.running_ahead.specs.declared.recursion.Found.TheVariants.{Nothing, Next, Gave}
-use Rattle.running_ahead.specs.Recursion.{HasRoomAbove, deep, standing, Gives, Comes, GivesOf, ReturnsBy, InsideBy, FoundBy, IsCalled}
+use Rattle.running_ahead.specs.Recursion.{HasRoomAbove, deep, begun, standing, Gives, Comes, GivesOf, ReturnsBy, InsideBy, FoundBy, AreValues, laid_over, IsBegun, IsCalled}
 
 -- ---- layers
 
@@ -172,9 +172,9 @@ positive : (n : ℕ) → (n == 0) ≡ false → 0 < n
 positive zero e = absurd cc
 positive (suc n) e = omega arith
 
--- an instance's slots, with one argument
-pub one_argument : (ts : Tables) (slots : List Slot) (size : ℕ) (es : List Linked) (v : ℤ) → values_at ts slots es ≡ pure (v ∷ []) → entry_at ts slots size es ≡ pure (slots_for size (v ∷ []))
-one_argument ts slots size es v e = ap (mapped (slots_for size)) e
+-- an instance's slots, with those arguments
+pub begun_by : (ts : Tables) (slots : List Slot) (size : ℕ) (es : List Linked) (vs : List ℤ) → values_at ts slots es ≡ pure vs → entry_at ts slots size es ≡ pure (slots_for size vs)
+begun_by ts slots size es vs e = ap (mapped (slots_for size)) e
 
 -- a called child of the topmost instance's procedure, which gives a value
 module _ (setting : Setting) (s : PlainStrand) (name : Option ℕ) (w : Work) (f : ℕ) (args : List Slot) (room : HasRoomAbove s.top.left s) (deep_enough : (s.top.left == 0) ≡ false) where
@@ -287,6 +287,18 @@ module _ (setting : Setting) (a : PlainActivation) (start : PlainLayer) (f : ℕ
         value layer);
   }
 
+-- a body that ends gives 0 back
+pub comes_over : (setting : Setting) (a : PlainActivation) (start : PlainLayer) (f : ℕ) (slots : List Slot) (p : Position) (m : PlainLayer) → Comes setting a start f slots p m → None ≡ instruction_inside setting.codes f 0 p → Gives setting a start (pos 0) m
+comes_over setting a l f slots p m come none =
+    let last = record (standing f a.left slots p come.children come.spawned come.into) { work = Over } in
+    record {
+      last = last;
+      way = λ s may room.
+          on (topped Running last m s) (topped (Returning (pos 0)) last m s)
+          (on (topped Running (standing f a.left slots p come.children come.spawned come.into) m s) (topped Running last m s) (come.way s may room)
+          (λ kit. ap (λ x. gone_by setting kit p x (topped Running (standing f a.left slots p come.children come.spawned come.into) m s)) none)) (λ kit. refl);
+    }
+
 -- ---- what is found of a call
 
 min_less : (n : ℕ) → min n (n - 1) ≡ n - 1
@@ -297,13 +309,13 @@ module _ (c : PlainChecked) (tables : Tables) (records : List PlainRecord) (f le
   over = setting_with c tables [] records
 
   abbrev pub begun_slots : List Slot
-  begun_slots = slots_for (slots_of c.codes f) (is.number ∷ [])
+  begun_slots = slots_for (slots_of c.codes f) is.numbers
 
   pub begun_with : entry_at tables slots (slots_of c.codes f) es ≡ pure begun_slots
-  begun_with = one_argument tables slots (slots_of c.codes f) es is.number (is.argument tables)
+  begun_with = begun_by tables slots (slots_of c.codes f) es is.numbers (is.values tables)
 
   pub is_given : (l : PlainLayer) → Gives over (made f begun_slots (Block (first_of 0)) (left - 1)) (deep f (min least (left - 1)) l) v (deep f new l)
-  is_given l = subst (λ (k : ℕ). Gives over (made f (slots_for k (is.number ∷ [])) (Block (first_of 0)) (left - 1)) (deep f (min least (left - 1)) l) v (deep f new l)) size (is.gives tables records l)
+  is_given l = subst (λ (k : ℕ). Gives over (made f (slots_for k is.numbers) (Block (first_of 0)) (left - 1)) (deep f (min least (left - 1)) l) v (deep f new l)) size (is.gives tables records l)
 
 -- where an instance of the procedure has come so far
 pub comes_found : (c : PlainChecked) (tables : Tables) (records : List PlainRecord) (a : PlainActivation) (start l : PlainLayer) (f least new : ℕ) (slots : List Slot) (p : Position) (i : Instruction) (op : Operation) (name : Option ℕ) (way : Way) (callee : ℕ) (es : List Linked) (v : ℤ)
@@ -337,38 +349,85 @@ found_goes c tables records s statement way name w f new es v called_so size mem
 
 -- ---- the slots of an instance that begins
 
-alone : (m : ℕ) (v : ℤ) → slots_for (suc m) (v ∷ []) ≡ Has v ∷ replicate m Unset
-alone zero v = refl
-alone (suc m) v =
-    let e : suc (suc m) - 1 ≡ suc m = omega arith in
-    ap (λ (k : ℕ). Has v ∷ replicate k Unset) e
+pub values_are : (ts : Tables) (slots : List Slot) (es : List Linked) (vs : List ℤ) → AreValues slots es vs → values_at ts slots es ≡ pure vs
+values_are ts slots [] [] h = refl
+values_are ts slots [] (v ∷ vs) h = absurd cc
+values_are ts slots (e ∷ es) [] h = absurd cc
+values_are ts slots (e ∷ es) (v ∷ vs) h =
+    ap (λ (q : NumberedOut ℤ). q >>= (λ x. mapped (λ xs. x ∷ xs) (values_at ts slots es))) (h.0 ts) ∙ ap (λ (q : NumberedOut (List ℤ)). mapped (λ xs. v ∷ xs) q) (values_are ts slots es vs h.1)
 
--- the first ones of a list of eight, with one number
-pub first_of_eight : (n : ℕ) (v : ℤ) → (n == 0) ≡ false → n ≤ 8 → take n (slice_set (replicate 8 Unset) 0 (Has v)) ≡ slots_for n (v ∷ [])
-first_of_eight zero v some few = absurd cc
-first_of_eight (suc m) v some few =
-    let fewer : m ≤ 7 = omega (arith, few) in
-    ap (λ (xs : List Slot). Has v ∷ xs) (take-replicate m 7 Unset fewer) ∙ sym (alone m v)
+values_more : (slots : List Slot) (es : List Linked) (vs : List ℤ) (e : Linked) (v : ℤ) → AreValues slots es vs → ((all : Tables) → value_at all slots e ≡ pure v) → AreValues slots (es ++ e ∷ []) (vs ++ v ∷ [])
+values_more slots [] [] e v h one = (one, tt)
+values_more slots [] (u ∷ vs) e v h one = absurd cc
+values_more slots (d ∷ es) [] e v h one = absurd cc
+values_more slots (d ∷ es) (u ∷ vs) e v h one = (h.0, values_more slots es vs e v h.1 one)
 
-pub is_called : (c : PlainChecked) (f left least : ℕ) (slots : List Slot) (way : Way) (callee : ℕ) (es : List Linked) (number : ℤ) (new : ℕ) (res : Option ℤ)
-    → way ≡ Call → callee ≡ f → (left == 0) ≡ false → ((all : Tables) → values_at all slots es ≡ pure (number ∷ []))
+-- as many
+values_count : (slots : List Slot) (es : List Linked) (vs : List ℤ) → AreValues slots es vs → length vs ≡ length es
+values_count slots [] [] h = refl
+values_count slots [] (v ∷ vs) h = absurd cc
+values_count slots (e ∷ es) [] h = absurd cc
+values_count slots (e ∷ es) (v ∷ vs) h = ap suc (values_count slots es vs h.1)
+
+laid_more : (vs : List ℤ) (xs : List Slot) (v : ℤ) → slice_set (laid_over vs xs) (length vs) (Has v) ≡ laid_over (vs ++ v ∷ []) xs
+laid_more [] [] v = refl
+laid_more [] (x ∷ xs) v = refl
+laid_more (u ∷ vs) [] v = refl
+laid_more (u ∷ vs) (x ∷ xs) v = ap (λ (ys : List Slot). Has u ∷ ys) (laid_more vs xs v)
+
+-- the first expressions, and the next one
+take_next : (xs : List Expression) (i : ℕ) (e : Expression) → slice_get xs i ≡ Some e → take (suc i) xs ≡ take i xs ++ e ∷ []
+take_next [] i e there_is = absurd cc
+take_next (x ∷ xs) zero e there_is =
+    let same : x ≡ e = cc in
+    ap (λ (y : Expression). y ∷ []) same
+take_next (x ∷ xs) (suc i) e there_is = ap (λ (ys : List Expression). x ∷ ys) (take_next xs i e there_is)
+
+taken_count : (xs : List Expression) (i : ℕ) (e : Expression) → slice_get xs i ≡ Some e → length (map expression (take i xs)) ≡ i
+taken_count [] i e there_is = absurd cc
+taken_count (x ∷ xs) zero e there_is = refl
+taken_count (x ∷ xs) (suc i) e there_is = ap suc (taken_count xs i e there_is)
+
+-- one argument more
+pub begun_more : (slots : List Slot) (xs : List Expression) (i : ℕ) (e : Expression) (v : ℤ) (old window : List Slot) → IsBegun slots (map expression (take i xs)) old window → slice_get xs i ≡ Some e
+    → ((all : Tables) → value_at all slots (expression e) ≡ pure v) → IsBegun slots (map expression (take (i + 1) xs)) old (slice_set window i (Has v))
+begun_more slots xs i e v old window so_far there_is one =
+    let count : length so_far.numbers ≡ i = values_count slots (map expression (take i xs)) so_far.numbers so_far.values ∙ taken_count xs i e there_is in
+    let more : map expression (take (i + 1) xs) ≡ map expression (take i xs) ++ expression e ∷ [] =
+    ap (λ k. map expression (take k xs)) (add-one i) ∙ ap (λ (ys : List Expression). map expression ys) (take_next xs i e there_is) ∙ map-append expression (take i xs) (e ∷ []) in
+    record {
+      numbers = so_far.numbers ++ v ∷ [];
+      values = subst (λ (es : List Linked). AreValues slots es (so_far.numbers ++ v ∷ [])) (sym more) (values_more slots (map expression (take i xs)) so_far.numbers (expression e) v so_far.values one);
+      laid = ap (λ (ys : List Slot). slice_set ys i (Has v)) so_far.laid ∙ ap (λ (k : ℕ). slice_set (laid_over so_far.numbers old) k (Has v)) (sym count) ∙ laid_more so_far.numbers old v;
+    }
+
+-- the first ones of some slots without values, with those numbers
+laid_first : (vs : List ℤ) (size k : ℕ) → length vs ≤ size → size ≤ k → take size (laid_over vs (replicate k Unset)) ≡ slots_for size vs
+laid_first [] zero k some few = refl
+laid_first [] (suc m) k some few =
+    let e : suc m - 0 ≡ suc m = omega arith in
+    take-replicate (suc m) k Unset few ∙ sym (ap (λ (n : ℕ). replicate n Unset) e)
+laid_first (v ∷ vs) zero k some few = absurd (omega (arith, some))
+laid_first (v ∷ vs) (suc m) zero some few = absurd (omega (arith, few))
+laid_first (v ∷ vs) (suc m) (suc k) some few =
+    let less : length vs ≤ m = omega (arith, some) in
+    let fewer : m ≤ k = omega (arith, few) in
+    let e : suc m - suc (length (map Has vs)) ≡ m - length (map Has vs) = omega arith in
+    ap (λ (ys : List Slot). Has v ∷ ys) (laid_first vs m k less fewer) ∙ sym (ap (λ (n : ℕ). Has v ∷ take m (map Has vs) ++ replicate n Unset) e)
+
+pub begun_first : (slots : List Slot) (es : List Linked) (size : ℕ) (new : List Slot) (is : IsBegun slots es (replicate 8 Unset) new) → length es ≤ size → size ≤ 8 → take size new ≡ slots_for size is.numbers
+begun_first slots es size new is some few =
+    let count : length is.numbers ≡ length es = values_count slots es is.numbers is.values in
+    let enough : length is.numbers ≤ size = omega (arith, count, some) in
+    ap (λ (ys : List Slot). take size ys) is.laid ∙ laid_first is.numbers size 8 enough few
+
+pub is_called : (c : PlainChecked) (f left least : ℕ) (slots : List Slot) (way : Way) (callee : ℕ) (es : List Linked) (numbers : List ℤ) (after : ℕ) (res : Option ℤ)
+    → way ≡ Call → callee ≡ f → (left == 0) ≡ false → ((all : Tables) → values_at all slots es ≡ pure numbers)
     → IfSome res (λ v. (tables : Tables) (records : List PlainRecord) (l : PlainLayer)
-    → Gives (setting_with c tables [] records) (made f (slots_for (length slots) (number ∷ [])) (Block (first_of 0)) (left - 1)) (deep f (min least (left - 1)) l) v (deep f new l))
-    → IfSome res (λ v. IsCalled c f left least slots way callee es v new)
-is_called c f left least slots way callee es number new None call own room argument gives = tt
-is_called c f left least slots way callee es number new (Some v) call own room argument gives = record { call = call; own = own; room = room; number = number; argument = argument; gives = gives }
-
--- the value of the only argument
-pub one_value : (ts : Tables) (slots : List Slot) (e : Linked) (v : ℤ) → value_at ts slots e ≡ pure v → values_at ts slots (e ∷ []) ≡ pure (v ∷ [])
-one_value ts slots e v is = ap (λ (q : NumberedOut ℤ). q >>= (λ x. mapped (λ xs. x ∷ xs) (pure []))) is
-
--- a list of one expression
-pub one_of : (xs : List Expression) (x : Expression) → length xs ≡ 1 → slice_get xs 0 ≡ Some x → map expression xs ≡ expression x ∷ []
-one_of [] x e there_is = absurd cc
-one_of (y ∷ []) x e there_is =
-    let same : y ≡ x = cc in
-    ap (λ (z : Expression). expression z ∷ []) same
-one_of (y ∷ z ∷ zs) x e there_is = absurd (omega (arith, e))
+    → Gives (setting_with c tables [] records) (begun f (left - 1) (slots_for (length slots) numbers)) (deep f (min least (left - 1)) l) v (deep f after l))
+    → IfSome res (λ v. IsCalled c f left least slots way callee es v after)
+is_called c f left least slots way callee es numbers after None call own room values gives = tt
+is_called c f left least slots way callee es numbers after (Some v) call own room values gives = record { call = call; own = own; room = room; numbers = numbers; values = values; gives = gives }
 
 -- ---- a strand whose topmost instance has room above it
 

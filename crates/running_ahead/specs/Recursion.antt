@@ -12,6 +12,7 @@ use Rattle.linked_program.specs.Checked.{PlainChecked}
 use Rattle.linked_program.specs.CodeView.{expression}
 use Rattle.linked_program.specs.Linked.{Linked}
 use Rattle.evaluation.specs.declared.slot.Slot.{Slot}
+use Rattle.evaluation.specs.declared.slot.Slot.TheVariants.{Has}
 use Rattle.evaluation.specs.Slots.{slots_for}
 use Rattle.evaluation.specs.Values.{value_at, values_at, pure}
 use Rattle.record_theory.specs.Record.{PlainRecord}
@@ -92,13 +93,33 @@ FoundBy setting f p i slots Next new = (left children : ℕ) (spawned : Bool) (i
 FoundBy setting f p i slots (Gave v) new = (left children : ℕ) (spawned : Bool) (into : Option ℕ) (m : PlainLayer)
     → Some i ≡ instruction_inside setting.codes f 0 p → Gives setting (standing f left slots p children spawned into) m v m
 
--- an instance with those slots calls one of its own procedure with one number, and that value is found of it
-pub record IsCalled (c : PlainChecked) (f left least : ℕ) (slots : List Slot) (way : Way) (callee : ℕ) (es : List Linked) (v : ℤ) (new : ℕ) : Type 0 where
+-- expressions that read nothing have these values
+abbrev pub AreValues : List Slot → List Linked → List ℤ → Type 0
+AreValues slots [] [] = Unit {0}
+AreValues slots [] (v ∷ vs) = true ≡ false
+AreValues slots (e ∷ es) [] = true ≡ false
+AreValues slots (e ∷ es) (v ∷ vs) = ((all : Tables) → value_at all slots e ≡ pure v) × AreValues slots es vs
+
+-- numbers in the first slots
+abbrev pub laid_over : List ℤ → List Slot → List Slot
+laid_over [] xs = xs
+laid_over (v ∷ vs) [] = []
+laid_over (v ∷ vs) (x ∷ xs) = Has v ∷ laid_over vs xs
+
+-- the first slots of an instance that begins have the values of its arguments
+pub record IsBegun (slots : List Slot) (es : List Linked) (old new : List Slot) : Type 0 where
+  pub numbers : List ℤ
+  pub values : AreValues slots es numbers
+  pub laid : new ≡ laid_over numbers old
+
+-- an instance with those slots calls one of its own procedure, and that value is found of it
+pub record IsCalled (c : PlainChecked) (f left least : ℕ) (slots : List Slot) (way : Way) (callee : ℕ) (es : List Linked) (v : ℤ)
+    (after : ℕ) : Type 0 where
   pub call : way ≡ Call
   pub own : callee ≡ f
   pub room : (left == 0) ≡ false
-  pub number : ℤ
-  pub argument : (all : Tables) → values_at all slots es ≡ pure (number ∷ [])
+  pub numbers : List ℤ
+  pub values : (all : Tables) → values_at all slots es ≡ pure numbers
   pub gives : (tables : Tables) (records : List PlainRecord) (l : PlainLayer)
-      → Gives (setting_with c tables [] records) (begun f (left - 1) (slots_for (length slots) (number ∷ [])))
-      (deep f (min least (left - 1)) l) v (deep f new l)
+      → Gives (setting_with c tables [] records) (begun f (left - 1) (slots_for (length slots) numbers))
+      (deep f (min least (left - 1)) l) v (deep f after l)

@@ -1,6 +1,6 @@
 //! Procedures that call themselves and note nothing: the value of such a call is found without an instance on the strand. Where it
 //! isn't, nothing has changed.
-ghost use Rattle.std.specs.Prelude.{◌≡◌, ◌-◌, [], List, IfSome, true, false, ℕ, length, map, min};
+ghost use Rattle.std.specs.Prelude.{◌≡◌, ◌-◌, ◌≤◌, [], List, IfSome, true, false, ℕ, length, map, min};
 ghost use Rattle.meaning.specs.Tables.{Tables as TableList};
 ghost use Rattle.linked_program.specs.CodeView.{expression as plain, memo_of, slots_of};
 ghost use Rattle.evaluation.specs.declared.slot.Slot.TheVariants.{Has};
@@ -10,7 +10,7 @@ ghost use Rattle.positions.specs.Activations.{with_slot};
 ghost use Rattle.positions.specs.Layers.{PlainLayer};
 ghost use Rattle.positions.specs.Setting.{setting_with};
 ghost use Rattle.own_statements.specs.Runs.{IsBody};
-ghost use Rattle.running_ahead.specs.Recursion.{FoundBy, Gives, InsideBy, IsCalled, ReturnsBy, begun, deep};
+ghost use Rattle.running_ahead.specs.Recursion.{FoundBy, Gives, InsideBy, IsBegun, IsCalled, ReturnsBy, begun, deep};
 
 use activations::code::instruction;
 use evaluation::slot::Slot;
@@ -46,29 +46,8 @@ pub(crate) fn calls_itself(program: &Checked, procedure: usize) -> bool {
 
 fn is_own_body(body: &CodeBlock, procedure: usize) -> bool {
     for instruction in &body.instructions {
-        match &instruction.operation {
-            Operation::Bind(_, value) => {
-                if !is_silent(value) {
-                    return false;
-                }
-            }
-            Operation::Enter(_, way, callee, arguments) => {
-                if is_spawn(*way) || *callee != procedure || arguments.len() != 1 {
-                    return false;
-                }
-            }
-            Operation::Sync => {}
-            Operation::If(condition, _, _) => {
-                if !is_silent(condition) {
-                    return false;
-                }
-            }
-            Operation::Return(value) => {
-                if !is_silent(value) {
-                    return false;
-                }
-            }
-            _ => return false,
+        if !is_own(&instruction.operation, procedure) {
+            return false;
         }
     }
     true
@@ -88,7 +67,30 @@ fn are_short(blocks: &[CodeBlock]) -> bool {
     true
 }
 
-/// Whether an expression reads nothing, by its form: one with boxes may read.
+fn is_own(operation: &Operation, procedure: usize) -> bool {
+    match operation {
+        Operation::Bind(_, value) => is_silent(value),
+        Operation::Enter(_, way, callee, arguments) => {
+            !is_spawn(*way) && *callee == procedure && are_silent(arguments)
+        }
+        Operation::Sync => true,
+        Operation::If(condition, _, _) => is_silent(condition),
+        Operation::Return(value) => is_silent(value),
+        _ => false,
+    }
+}
+
+fn are_silent(expressions: &[Expression]) -> bool {
+    for expression in expressions {
+        if !is_silent(expression) {
+            return false;
+        }
+    }
+    true
+}
+
+/// Whether an expression reads nothing.
+#[cycle(is_silent)]
 fn is_silent(expression: &Expression) -> bool {
     match expression {
         Expression::Number(_) => true,
@@ -96,6 +98,8 @@ fn is_silent(expression: &Expression) -> bool {
         Expression::Slots(_, _, _) => true,
         Expression::SlotAndNumber(_, _, _) => true,
         Expression::NumberAndSlot(_, _, _) => true,
+        Expression::Negate(inner) => is_silent(inner),
+        Expression::Binary(_, left, right) => is_silent(left) && is_silent(right),
         _ => false,
     }
 }
@@ -249,7 +253,22 @@ fn value_of(program: &Checked, own: Own<'_>, slots: &mut [Slot], least: &mut u32
             Found::Nothing => return None,
         }
     }
-    None
+    Some(0)
+}
+
+/// Puts the values of arguments into the first slots; whether each has one.
+#[inline(always)]
+fn begin(window: &mut [Slot], arguments: &[Expression], slots: &[Slot]) -> bool
+    requires room { length arguments.now ≤ length window.old }
+    ensures begun { result ≡ true → IsBegun slots.now (map plain arguments.now) window.old window.new }
+{
+    for place in 0..arguments.len() {
+        match number(&arguments[place], slots) {
+            Some(value) => window[place] = Slot::Has(value),
+            None => return false,
+        }
+    }
+    true
 }
 
 /// The value of an instance that one with those slots enters, where it is called and of the same procedure.
@@ -272,22 +291,19 @@ pub(crate) fn called(
         return None;
     }
     let size = slots.len();
-    if enters.arguments.len() != 1 || size == 0 || size > WIDEST {
+    if size > WIDEST || enters.arguments.len() > size {
         return None;
     }
-    match number(&enters.arguments[0], slots) {
-        Some(number) => {
-            let mut window = [Slot::Unset; WIDEST];
-            window[0] = Slot::Has(number);
-            let left = own.left - 1;
-            *least = (*least).min(left);
-            let child = Own {
-                procedure: own.procedure,
-                body: own.body,
-                left,
-            };
-            value_of(program, child, &mut window[..size], least)
-        }
-        None => None,
+    let mut window = [Slot::Unset; WIDEST];
+    if !begin(&mut window[..], enters.arguments, slots) {
+        return None;
     }
+    let left = own.left - 1;
+    *least = (*least).min(left);
+    let child = Own {
+        procedure: own.procedure,
+        body: own.body,
+        left,
+    };
+    value_of(program, child, &mut window[..size], least)
 }

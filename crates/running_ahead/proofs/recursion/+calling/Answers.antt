@@ -1,5 +1,6 @@
 use Rattle.std.proofs.Common.{rules, ◌≡◌, ◌∙◌, ◌<◌, ◌≤◌, ◌+◌, ◌-◌, ◌==◌, take, replicate, ℕ, ℤ, Bool, true, false, List, [], ◌∷◌, Option, Some, None, length, map, refl, sym, ap, slice_get, slice_set, subst, to_z, of_z, w64}
-use Rattle.std.proofs.lemmas.Option.{slice_get_read}
+use Rattle.std.proofs.lemmas.List.{length-map}
+use Rattle.std.proofs.lemmas.Option.{slice_get_read, slice_get_past}
 use Rattle.std.specs.Prelude.{IfSome}
 use Rattle.meaning.specs.declared.tree.Way.TheVariants.{Call}
 use Rattle.meaning.specs.Tables.{Tables}
@@ -19,8 +20,8 @@ use Rattle.positions.specs.Code.{instruction_inside}
 use Rattle.positions.specs.Layers.{PlainLayer}
 use Rattle.positions.specs.Setting.{setting_with}
 use Rattle.own_statements.specs.Paths.{here}
-use Rattle.running_ahead.specs.Recursion.{Comes, Gives, deep, IsCalled}
-use Rattle.running_ahead.proofs.OwnCalls.{comes_next, comes_gave, comes_found, first_of_eight, is_called, one_of, one_value}
+use Rattle.running_ahead.specs.Recursion.{Comes, Gives, begun, deep, IsBegun, IsCalled}
+use Rattle.running_ahead.proofs.OwnCalls.{comes_next, comes_gave, comes_over, comes_found, begun_first, values_are, is_called}
 use Rattle.running_ahead.proofs.recursion.+calling.Goals as goal
 
 pub value_of-loop-index-init : goal.value_of-loop-index-init
@@ -86,26 +87,42 @@ value_of-returns-in-Gave t c =
           (comes_gave (setting_with P ts [] rs) a (deep f c.args.least.now m) f c.loop-index.slots p (deep f c.loop-index.least m) (c.loop-index.invariant.come ts rs m) i found c.in-Gave.value c.found_alone.new.slots (c.in-Gave.ensures.found ts rs));
     }
 
-pub called-returns-in-Some : goal.called-returns-in-Some
-called-returns-in-Some t c =
+pub value_of-returns : goal.value_of-returns
+value_of-returns t c =
     let P = c.args.program.now in
     let f = c.args.own.procedure in
+    let xs = c.args.own.body.now in
+    let index = c.loop-index.index in
+    let p : Position = record { block = 0; index = index } in
+    let past : length xs ≤ index = search rules in
+    let none : None ≡ instruction_inside P.codes f 0 p = sym (slice_get_past xs index past) ∙ c.requires.body index in
+    let a = begun f c.args.own.left c.args.slots.now in
+    record {
+      gives = λ ts rs m. comes_over (setting_with P ts [] rs) a (deep f c.args.least.now m) f c.loop-index.slots p (deep f c.loop-index.least m) (c.loop-index.invariant.come ts rs m) none;
+    }
+
+pub called-returns : goal.called-returns
+called-returns t c =
+    let P = c.args.program.now in
+    let f = c.args.own.procedure in
+    let left = c.args.own.left in
     let slots = c.args.slots.now in
-    let number = to_z w64 (of_z w64 c.in-Some.number) in
-    let same : c.in-Some.number ≡ number = search rules in
+    let xs = c.args.enters.arguments.now in
+    let es = map expression xs in
     let call : c.args.enters.way ≡ Call = search rules in
     let own : c.args.enters.callee ≡ f = search rules in
-    let room : (c.args.own.left == 0) ≡ false = search rules in
-    let one : length c.args.enters.arguments.now ≡ 1 = search rules in
-    let some : 0 < length c.args.enters.arguments.now = search rules in
-    let first : slice_get c.args.enters.arguments.now 0 ≡ Some c.index-enters-0.result = slice_get_read c.args.enters.arguments.now (length c.args.enters.arguments.now) 0 c.index-enters-0.result refl some c.index-enters-0.is in
-    let many : (length slots == 0) ≡ false = search rules in
+    let room : (left == 0) ≡ false = search rules in
     let few : length slots ≤ 8 = search rules in
-    let begun = λ (ys : List Slot) (k : ℕ). IfSome c.value_of.result (λ v. (ts : Tables) (rs : List PlainRecord) (l : PlainLayer)
-    → Gives (setting_with P ts [] rs) (made f ys (Block (first_of 0)) (c.args.own.left - 1)) (deep f k l) v (deep f c.value_of.new.least l)) in
-    let gives : begun (take (length slots) (slice_set (replicate 8 Unset) 0 (Has number))) c.min.result = c.value_of.ensures.gives in
+    let enough : length xs ≤ length slots = search rules in
+    let some : length es ≤ length slots = subst (λ k. k ≤ length slots) (sym (length-map xs expression)) enough in
+    let is : c.begin.result ≡ true = search rules in
+    let begun_so : IsBegun slots es (replicate 8 Unset) c.begin.new.window = c.begin.ensures.begun is in
+    let gives_so = λ (ys : List Slot) (k : ℕ). IfSome c.value_of.result (λ v. (ts : Tables) (rs : List PlainRecord) (l : PlainLayer)
+    → Gives (setting_with P ts [] rs) (begun f (left - 1) ys) (deep f k l) v (deep f c.value_of.new.least l)) in
+    let gives : gives_so (take (length slots) c.begin.new.window) c.min.result = c.value_of.ensures.gives in
     record {
-      called = is_called P f c.args.own.left c.args.least.now slots c.args.enters.way c.args.enters.callee (map expression c.args.enters.arguments.now) number c.value_of.new.least c.value_of.result call own room
-          (λ all. ap (λ es. values_at all slots es) (one_of c.args.enters.arguments.now c.index-enters-0.result one first) ∙ one_value all slots (expression c.index-enters-0.result) number (ap (λ (e : Expression). value_at all slots (expression e)) c.index-enters-0.is ∙ c.in-Some.ensures.value all ∙ ap (λ (u : ℤ). pure u) same))
-          (subst (λ k. begun (slots_for (length slots) (number ∷ [])) k) c.min.ensures (subst (λ ys. begun ys c.min.result) (first_of_eight (length slots) number many few) gives));
+      called = is_called P f left c.args.least.now slots c.args.enters.way c.args.enters.callee es begun_so.numbers c.value_of.new.least c.value_of.result call own room
+          (λ all. values_are all slots es begun_so.numbers begun_so.values)
+          (subst (λ k. gives_so (slots_for (length slots) begun_so.numbers) k) c.min.ensures
+          (subst (λ ys. gives_so ys c.min.result) (begun_first slots es (length slots) c.begin.new.window begun_so some few) gives));
     }
