@@ -29,7 +29,7 @@ use Rattle.positions.specs.Advance.{begun, reused, passed, opened, opened_of, re
 use Rattle.positions.specs.Stands.{AreNotes, IsOpened, IsTally, IsStart, AreBodies, acts_at, IsTodo, IsTodoAt, AreParents, IsNewInstance, HasArguments, IsRunning, frame_of}
 use Rattle.position_theory.proofs.Evaluations.{strand_at, Comes}
 use Rattle.position_theory.proofs.Layering.{top_none, blank_is, notes_entered, top_noted}
-use Rattle.position_theory.proofs.Places.{recorded_somewhere, memo_at, body_at, found_at}
+use Rattle.position_theory.proofs.Places.{memo_at, body_at, found_at}
 use Rattle.position_theory.proofs.Products.{absorbed}
 use Rattle.position_theory.proofs.Recorded.{answered}
 use Rattle.position_theory.proofs.Starts.{start_moved}
@@ -71,7 +71,7 @@ module _ (t : Tree) (tables : Tables) (lookup : Lookup) (acc : Accumulators) (fr
 -- ---- the step by numbers
 
 module _ (setting : Setting) (tables : HasItsTables setting) (linked : IsLinked setting) (records : HasItsRecords setting) (kit : Bool) (acc : Accumulators)
-    (m : NamedStart) (under : List Parent) (st : Start) (lower : List PlainLayer) (path : Place) (a : PlainActivation) (l : PlainLayer) (ls : List Notes) (hl : AreNotes setting (l ∷ lower) ls)
+    (m : NamedStart) (under : List Parent) (st : Start) (lower : List PlainLayer) (path : Place) (a : PlainActivation) (l : PlainLayer) (ls : List Notes) (hl : AreNotes setting st (l ∷ lower) ls)
     (below : List PlainActivation) (from : Phase) (args : List ℤ) (pt : PlainTally) (t : Tally) (counts : IsTally setting pt t) (fr' : Frame) (ph : NamedPhase) (under' : List Parent) (f : Name) (vs : List ℤ)
     (begins : IsStart st Entering path m) (hu : AreParents setting path below (unflagged_under under)) (new : IsNewInstance setting a f vs) (asked : HasArguments setting args a vs) where
   abbrev here : PlainStrand
@@ -108,13 +108,13 @@ module _ (setting : Setting) (tables : HasItsTables setting) (linked : IsLinked 
   runs : (ks : List Notes) → IsRunning setting path a below (strand_at m ks fr (running (blocks (body ∷ []))) (unflagged_under under))
   runs ks = record { todo = blocks (body ∷ []); left = left_is; phase = refl; frame = refl; under = hu }
 
-  entered_notes : AreNotes setting (entering a.procedure level l ∷ lower) (noted_top ls (Begins path level ∷ Enters f vs level ∷ []))
+  entered_notes : AreNotes setting st (entering a.procedure level l ∷ lower) (noted_top ls (Begins path level ∷ Enters f vs level ∷ []))
   entered_notes =
-      top_noted setting l (entering a.procedure level l) lower ls (Begins path level ∷ Enters f vs level ∷ []) (λ n i. notes_entered setting l n f vs a.procedure level new.procedure i) hl
+      top_noted setting st l (entering a.procedure level l) lower ls (Begins path level ∷ Enters f vs level ∷ []) (λ n i. notes_entered setting l n f vs a.procedure level new.procedure i) hl
 
-  marked_notes : AreNotes setting (entering a.procedure level l ∷ lower) (noted_top ls (Begins path level ∷ Marks f vs false ∷ Enters f vs level ∷ []))
+  marked_notes : AreNotes setting st (entering a.procedure level l ∷ lower) (noted_top ls (Begins path level ∷ Marks f vs false ∷ Enters f vs level ∷ []))
   marked_notes =
-      top_noted setting l (entering a.procedure level l) lower ls (Begins path level ∷ Marks f vs false ∷ Enters f vs level ∷ []) (λ n i. notes_entered setting l n f vs a.procedure level new.procedure i) hl
+      top_noted setting st l (entering a.procedure level l) lower ls (Begins path level ∷ Marks f vs false ∷ Enters f vs level ∷ []) (λ n i. notes_entered setting l n f vs a.procedure level new.procedure i) hl
 
   begun_is : Reaches (begun here) (entered_so false kit None)
   begun_is = record { start = runs_from; layers = entered_notes; tally = counts; now = runs _ }
@@ -141,29 +141,28 @@ module _ (setting : Setting) (tables : HasItsTables setting) (linked : IsLinked 
       arguments = args_are;
       left = refl;
       depth = refl;
-      recorded = recorded_somewhere setting.codes a.procedure (memo_at setting linked.codes a.procedure ∙ ap (λ p. p.memo) (found_at setting f a.procedure new.procedure) ∙ memo);
     }
 
     opened_is : Reaches (opened setting here) (moved (layer_of setting.program.tree setting.tables (lookup_of setting) true acc true) (Begins path level ∷ Marks f vs false ∷ Enters f vs level ∷ []) (with_layer true fr) (running (blocks (body ∷ []))) under)
     opened_is = record {
       start = runs_from;
       layers = (
-        notes_entered setting (blank true setting.kinds (length setting.codes)) (definitions.blank setting.program.tree) f vs a.procedure level new.procedure (blank_is setting true (sym opened_one.recorded) linked),
-        subst (AreNotes setting (l ∷ lower)) (sym (top_none ls)) hl,
+        notes_entered setting (blank true setting.kinds (length setting.codes)) (definitions.blank setting.program.tree) f vs a.procedure level new.procedure (blank_is setting true refl linked),
+        subst (AreNotes setting st (l ∷ lower)) (sym (top_none ls)) hl,
       );
       tally = record { opened = (opened_one, counts.opened); made = counts.made; executed = ap suc counts.executed; reused = counts.reused; unrecorded = counts.unrecorded };
       now = runs _;
     }
 
-    absorbed_notes : (k : Kept) (r : PlainRecord) → IsRecord setting.program.tree setting.names setting.kinds k r → (ks : List Notes) → AreNotes setting (l ∷ lower) ks
-        → AreNotes setting (absorbing r level l ∷ lower) (take_top setting.program.tree (notes_of k level) ks)
+    absorbed_notes : (k : Kept) (r : PlainRecord) → IsRecord setting.program.tree setting.names setting.kinds k r → (ks : List Notes) → AreNotes setting st (l ∷ lower) ks
+        → AreNotes setting st (absorbing r level l ∷ lower) (take_top setting.program.tree (notes_of k level) ks)
     absorbed_notes k r h [] i = absurd i
     absorbed_notes k r h (n ∷ ks) i = (absorbed setting l n i.0 linked k r level h, i.1)
 
     reused_is : (k : Kept) (r : PlainRecord) → IsRecord setting.program.tree setting.names setting.kinds k r → Reaches (reused r here) (taken [] k fr (leaving k.value) under)
     reused_is k r h = record {
       start = start_moved st Entering (Leaving r.value) path path m (λ d w. (refl, w)) begins;
-      layers = absorbed_notes k r h (noted_top ls []) (subst (AreNotes setting (l ∷ lower)) (sym (top_none ls)) hl);
+      layers = absorbed_notes k r h (noted_top ls []) (subst (AreNotes setting st (l ∷ lower)) (sym (top_none ls)) hl);
       tally = record { opened = counts.opened; made = counts.made; executed = counts.executed; reused = ap suc counts.reused; unrecorded = counts.unrecorded };
       now = record { phase = ap leaving (sym h.value); frame = refl; under = hu };
     }

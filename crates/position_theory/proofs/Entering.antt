@@ -93,7 +93,7 @@ module _ (setting : Setting) where
     child_is : child_name (frame_with path a env) ≡ path ++ (a.children + 1) ∷ []
     child_is = ap (λ k. path ++ k ∷ []) (let e : suc a.children ≡ a.children + 1 = omega arith in e)
 
-    module _ (st : Start) (m : NamedStart) (begins : IsStart st Running path m) (l : PlainLayer) (lower : List PlainLayer) (ls : List Notes) (hl : AreNotes setting (l ∷ lower) ls) (from : Phase) (ph : NamedPhase)
+    module _ (st : Start) (m : NamedStart) (begins : IsStart st Running path m) (l : PlainLayer) (lower : List PlainLayer) (ls : List Notes) (hl : AreNotes setting st (l ∷ lower) ls) (from : Phase) (ph : NamedPhase)
         (args : List ℤ) (pt : PlainTally) (t : Tally) (counts : IsTally setting pt t) where
       abbrev here : PlainStrand
       here = record { start = st; layer = l; lower = lower; path = path; top = a; below = below; phase = from; arguments = args; tally = pt }
@@ -103,7 +103,7 @@ module _ (setting : Setting) where
           → Comes setting (pushed c true into w AtSpawn here) (strand_at m ls (frame_with path a env) ph under) t (moved noting [] (frame_with path a env) (spawning d into child todo) under)
       spawned_is c d child e new left = record {
         start = start_in_child st Running AtSpawn path (a.children + 1) m (λ k h. (h, omega arith)) begins;
-        layers = subst (AreNotes setting (l ∷ lower)) (sym (top_none ls)) hl;
+        layers = subst (AreNotes setting st (l ∷ lower)) (sym (top_none ls)) hl;
         tally = counts;
         now = record {
           child = child;
@@ -130,7 +130,7 @@ module _ (setting : Setting) where
           (strand_at m ls (frame_with path a env) ph under) t (enter_child setting.program.tree setting.tables lookup kit acc (frame_with path a env) a.left false into (half n job count i) todo under)
       half_is p slots loop k h n job count i named job_is left lookup kit acc = record {
         start = start_in_child st Running Running path (a.children + 1) m (λ k h. (h, omega arith)) begins;
-        layers = subst (AreNotes setting (l ∷ lower)) (sym (top_begins ls (child_name (frame_with path a env)) (depth_limit - a.left))) hl;
+        layers = subst (AreNotes setting st (l ∷ lower)) (sym (top_begins ls (child_name (frame_with path a env)) (depth_limit - a.left))) hl;
         tally = counts;
         now = record {
           todo = halves n job count i;
@@ -213,7 +213,7 @@ module _ (setting : Setting) (kit : Bool) (tables : HasItsTables setting) (linke
       on_depth (frame_with setting path a env) under site a.left
       (way_step setting.program.tree setting.tables (lookup_of setting) kit acc (frame_with setting path a env) under into f' vs todo way)
 
-  goes_in : (args' vs : List ℤ) → (memo_of setting.codes f ≡ true → args' ≡ vs) → (l : PlainLayer) (ls : List Notes) → AreNotes setting (l ∷ lower) ls
+  goes_in : (args' vs : List ℤ) → (memo_of setting.codes f ≡ true → args' ≡ vs) → (l : PlainLayer) (ls : List Notes) → AreNotes setting st (l ∷ lower) ls
       → Comes setting (nested setting kit n way into w f (slots_for (slots_of setting.codes f) vs) (here_at args' l)) (strand_at m ls (frame_with setting path a env) ph under) t (enters_with vs)
   goes_in args' vs asked l ls hl =
       nested_is setting path a env into w todo same unbound below under hu st m begins l lower ls hl from ph args' pt t counts kit tables linked records acc f' f vs
@@ -224,9 +224,9 @@ module _ (setting : Setting) (kit : Bool) (tables : HasItsTables setting) (linke
 
   -- its arguments are evaluated over those slots
   module _ (slots : List Slot) (es : List Linked) (o : Out FaultKind (List ℤ)) (evaluates : values_at setting.tables slots es ≡ by_number setting.names o) (only : OnlyReads o.log)
-      (l : PlainLayer) (ls : List Notes) (hl : AreNotes setting (l ∷ lower) ls) where
+      (l : PlainLayer) (ls : List Notes) (hl : AreNotes setting st (l ∷ lower) ls) where
     called_with : (next : List ℤ → PlainStrand → PlainStrand)
-        → ((vs : List ℤ) (k : PlainLayer) (ks : List Notes) → AreNotes setting (k ∷ lower) ks → Comes setting (next vs (here_at args k)) (strand_at m ks (frame_with setting path a env) ph under) t (enters_with vs))
+        → ((vs : List ℤ) (k : PlainLayer) (ks : List Notes) → AreNotes setting st (k ∷ lower) ks → Comes setting (next vs (here_at args k)) (strand_at m ks (frame_with setting path a env) ph under) t (enters_with vs))
         → Comes setting (evaluated n (values_at setting.tables slots es) next (here_at args l)) (strand_at m ls (frame_with setting path a env) ph under) t (on_value (frame_with setting path a env) under site o enters_with)
     called_with next goes =
         subst (λ out. Comes setting (evaluated n out next (here_at args l)) (strand_at m ls (frame_with setting path a env) ph under) t (on_value (frame_with setting path a env) under site o enters_with)) (sym evaluates)

@@ -103,29 +103,29 @@ mapped_is n f o next s = changed_is n f o.answer next (noted o.notes s)
 module _ (setting : Setting) (m : NamedStart) (fr : Frame) (ph : NamedPhase) (under : List Parent) (t : Tally) (s : PlainStrand) (n : ℕ) (site : Site)
     (at_site : site ≡ record { procedure = (procedure_at setting s.top.procedure).called; statement = n }) (begins : IsStart s.start Running s.path m) (counts : IsTally setting s.tally t) where
   -- a fault at the statement
-  pub faulted_is : (k : FaultKind) (l : PlainLayer) (ls : List Notes) → AreNotes setting (l ∷ s.lower) ls
+  pub faulted_is : (k : FaultKind) (l : PlainLayer) (ls : List Notes) → AreNotes setting s.start (l ∷ s.lower) ls
       → Comes setting (faulted n k (layered l s)) (strand_at m ls fr ph under) t (moved noting [] fr (broken (fault_at site k)) under)
   faulted_is k l ls h = record {
     start = start_moved s.start Running (Broken (record { kind = k; procedure = s.top.procedure; statement = n })) s.path s.path m (λ d w. (refl, w)) begins;
-    layers = subst (AreNotes setting (l ∷ s.lower)) (sym (top_none ls)) h;
+    layers = subst (AreNotes setting s.start (l ∷ s.lower)) (sym (top_none ls)) h;
     tally = counts;
     now = ap (λ at. broken (fault_at at k)) at_site;
   }
 
   stops_or_goes : {A : Type 0} (log : Log) (r : Result A FaultKind) (next : A → PlainStrand → PlainStrand) (step : A → Step) (ls : List Notes)
-      → OnlyReads log → AreNotes setting (s.layer ∷ s.lower) ls → ((v : A) → IsTaken (step v))
-      → ((v : A) (l : PlainLayer) (ks : List Notes) → AreNotes setting (l ∷ s.lower) ks → Comes setting (next v (layered l s)) (strand_at m ks fr ph under) t (step v))
+      → OnlyReads log → AreNotes setting s.start (s.layer ∷ s.lower) ls → ((v : A) → IsTaken (step v))
+      → ((v : A) (l : PlainLayer) (ks : List Notes) → AreNotes setting s.start (l ∷ s.lower) ks → Comes setting (next v (layered l s)) (strand_at m ks fr ph under) t (step v))
       → Comes setting (answered n r next (noted (map (numbered setting.names) (readings log)) s)) (strand_at m ls fr ph under) t (led_step log (on_answer fr under site r step))
   stops_or_goes log (Ok v) next step ls only h is_taken goes =
       led_comes setting (next v (noted (map (numbered setting.names) (readings log)) s)) m ls fr ph under t log only (step v) (is_taken v)
-      (goes v (plain.noting (map (numbered setting.names) (readings log)) s.layer) (noted_top ls log) (top_read setting s.layer s.lower ls log only h))
+      (goes v (plain.noting (map (numbered setting.names) (readings log)) s.layer) (noted_top ls log) (top_read setting s.start s.layer s.lower ls log only h))
   stops_or_goes log (Err k) next step ls only h is_taken goes =
       led_comes setting (faulted n k (noted (map (numbered setting.names) (readings log)) s)) m ls fr ph under t log only (moved noting [] fr (broken (fault_at site k)) under) tt
-      (faulted_is k (plain.noting (map (numbered setting.names) (readings log)) s.layer) (noted_top ls log) (top_read setting s.layer s.lower ls log only h))
+      (faulted_is k (plain.noting (map (numbered setting.names) (readings log)) s.layer) (noted_top ls log) (top_read setting s.start s.layer s.lower ls log only h))
 
   -- an evaluation, and then the rest
   pub evaluated_is : {A : Type 0} (o : Out FaultKind A) (next : A → PlainStrand → PlainStrand) (step : A → Step) (ls : List Notes)
-      → OnlyReads o.log → AreNotes setting (s.layer ∷ s.lower) ls → ((v : A) → IsTaken (step v))
-      → ((v : A) (l : PlainLayer) (ks : List Notes) → AreNotes setting (l ∷ s.lower) ks → Comes setting (next v (layered l s)) (strand_at m ks fr ph under) t (step v))
+      → OnlyReads o.log → AreNotes setting s.start (s.layer ∷ s.lower) ls → ((v : A) → IsTaken (step v))
+      → ((v : A) (l : PlainLayer) (ks : List Notes) → AreNotes setting s.start (l ∷ s.lower) ks → Comes setting (next v (layered l s)) (strand_at m ks fr ph under) t (step v))
       → Comes setting (evaluated n (by_number setting.names o) next s) (strand_at m ls fr ph under) t (on_value fr under site o step)
   evaluated_is o next step ls only h is_taken goes = stops_or_goes o.log o.answer next step ls only h is_taken goes

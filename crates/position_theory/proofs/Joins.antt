@@ -24,12 +24,14 @@ use Rattle.positions.specs.declared.start.Start.{Start}
 use Rattle.positions.specs.declared.start.Start.TheVariants.{Root, Behind}
 use Rattle.positions.specs.Setting.{Setting}
 use Rattle.positions.specs.Activations.{PlainActivation}
+use Rattle.positions.specs.Code.{may_nest}
 use Rattle.positions.specs.Layers.{PlainLayer, multiplied}
-use Rattle.positions.specs.Tallies.{PlainTally, tallies_joined as plain_tallies_joined}
-use Rattle.positions.specs.Strands.{PlainStrand, shorter}
+use Rattle.positions.specs.Tallies.{PlainOpened, PlainTally, tallies_joined as plain_tallies_joined}
+use Rattle.positions.specs.Strands.{PlainStrand, shorter, IsLayeredAt}
+use Rattle.positions.specs.Nesting.{AreNested, NestAt}
 use Rattle.positions.specs.Moves.{settled_slot, settled_slots, settled, settled_below, settled_at, settled_by, joined_ended, joined_broken, joined_after, joined_at, joined}
-use Rattle.positions.specs.Stands.{IsWithin, IsStart, AreNotes, IsTally, named_fault, frame_of, slots_by, IsTodoAt, IsTodo, IsParent, AreParents, IsNewInstance, IsNew, StandsAt, StandsFor}
-use Rattle.positions.specs.Simulation.{IsNotAtSpawn, IsJoined}
+use Rattle.positions.specs.Stands.{IsWithin, IsStart, IsKept, AreNotes, IsTally, named_fault, frame_of, slots_by, IsTodoAt, IsTodo, IsParent, AreParents, IsNewInstance, IsNew, StandsAt, StandsFor}
+use Rattle.positions.specs.Simulation.{IsBehind, IsNotAtSpawn, IsJoined}
 use Rattle.position_theory.proofs.Recorded.{records_append}
 use Rattle.position_theory.proofs.Products.{notes_multiplied}
 use Rattle.position_theory.proofs.Starts.{start_moved}
@@ -285,11 +287,25 @@ module _ (setting : Setting) where
   from_cond true a z e = (refl, cc)
   from_cond false a z e = absurd cc
 
-  top_multiplied : (l r : PlainLayer) (lower below : List PlainLayer) (ls ns : List Notes) → below ≡ [] → AreNotes setting (l ∷ lower) ls → AreNotes setting (r ∷ below) ns
-      → AreNotes setting (multiplied l r ∷ lower) (joined_layers setting.program.tree ls ns)
-  top_multiplied l r lower below [] ns e h i = absurd h
-  top_multiplied l r lower below (a ∷ ls) [] e h i = absurd i
-  top_multiplied l r lower below (a ∷ ls) (b ∷ ns) e h i = (notes_multiplied setting l a h.0 r b i.0, h.1)
+  -- a layer that keeps is a memo instance's that is around others, or a thief's lowest
+  nests_where_kept : (st : Start) (lower : List PlainLayer) (keeps : Bool) (os : List PlainOpened) → length os ≡ length lower → AreNested setting.codes os → IsKept setting st lower keeps → keeps ≡ true → may_nest setting.codes ≡ true
+  nests_where_kept Root [] keeps os long n h e = absurd (let c : true ≡ false = sym e ∙ h in cc)
+  nests_where_kept (Behind d k) [] keeps os long n h e = sym h ∙ e
+  nests_where_kept st (m ∷ lower) keeps [] long n h e = absurd (omega (arith, long))
+  nests_where_kept st (m ∷ lower) keeps (o ∷ os) long n h e = n
+
+  -- so the one layer of a strand that begins behind a child keeps too
+  kept_behind_child : (st : Start) (lower : List PlainLayer) (keeps : Bool) → lower ≡ [] → IsBehind st → IsKept setting st lower keeps → may_nest setting.codes ≡ true → keeps ≡ true
+  kept_behind_child Root lower keeps none b h e = absurd b
+  kept_behind_child (Behind d k) [] keeps none b h e = h ∙ e
+  kept_behind_child (Behind d k) (m ∷ lower) keeps none b h e = absurd cc
+
+  top_multiplied : (st sr : Start) (l r : PlainLayer) (lower below : List PlainLayer) (ls ns : List Notes) (os : List PlainOpened) → length os ≡ length lower → AreNested setting.codes os → below ≡ [] → IsBehind sr → AreNotes setting st (l ∷ lower) ls → AreNotes setting sr (r ∷ below) ns
+      → AreNotes setting st (multiplied l r ∷ lower) (joined_layers setting.program.tree ls ns)
+  top_multiplied st sr l r lower below [] ns os long n e b h i = absurd h
+  top_multiplied st sr l r lower below (a ∷ ls) [] os long n e b h i = absurd i
+  top_multiplied st sr l r lower below (a ∷ ls) (c ∷ ns) os long n e b h i =
+      (notes_multiplied setting l a h.0 r c (λ keeps. kept_behind_child sr below r.keeps e b i.0.keeps (nests_where_kept st lower l.keeps os long n h.0.keeps keeps)) i.0, h.1)
 
   both_counted : (a b : PlainTally) (t u : Tally) → IsTally setting a t → IsTally setting b u → IsTally setting (plain_tallies_joined a b) (tallies_joined t u)
   both_counted a b t u h i = record {
@@ -300,7 +316,7 @@ module _ (setting : Setting) where
     unrecorded = ap₂ (λ m n. m + n) h.unrecorded i.unrecorded;
   }
 
-  module _ (l r : PlainStrand) (x y : LayeredStrand) (t u : Tally) (v : ℤ) (lower : r.lower ≡ []) (begins : IsStart l.start (phase.Leaving v) l.path x.start) (hl : AreNotes setting (l.layer ∷ l.lower) x.layers) (hr : AreNotes setting (r.layer ∷ r.lower) y.layers)
+  module _ (l r : PlainStrand) (x y : LayeredStrand) (t u : Tally) (v : ℤ) (lower : r.lower ≡ []) (behind_child : IsBehind r.start) (nested : AreNested setting.codes l.tally.opened) (long : length l.tally.opened ≡ length l.lower) (begins : IsStart l.start (phase.Leaving v) l.path x.start) (hl : AreNotes setting l.start (l.layer ∷ l.lower) x.layers) (hr : AreNotes setting r.start (r.layer ∷ r.lower) y.layers)
       (counted : IsTally setting (plain_tallies_joined l.tally r.tally) (tallies_joined t u)) (named : x.frame.instance ≡ l.path) where
     abbrev right : Phase → PlainStrand
     right ph = record r { phase = ph }
@@ -329,7 +345,7 @@ module _ (setting : Setting) where
         subst (λ s. StandsFor setting (record s { start = l.start; layer = multiplied l.layer r.layer; lower = l.lower; tally = plain_tallies_joined l.tally r.tally }) pair (tallies_joined t u)) (sym (shape_is r.start v (right ph)))
         (record {
           start = start_joined l.start r.start v ph r.path l.path x.start y.start closed within (sym named ∙ there) begins i;
-          layers = top_multiplied l.layer r.layer l.lower r.lower x.layers y.layers lower hl hr;
+          layers = top_multiplied l.start r.start l.layer r.layer l.lower r.lower x.layers y.layers l.tally.opened long nested lower behind_child hl hr;
           tally = counted;
           now = goes_on ph n b (subst (λ e. Settles r.path r.top r.below e v (settled_by r.start v (right ph))) (sym there) (settles_by r.start ph (right ph) y.start v within i)) h;
         })
@@ -361,19 +377,19 @@ module _ (setting : Setting) where
           subst (λ w. StandsFor setting (joined_broken l (right (phase.Broken f)) f) w (tallies_joined t u)) both.1
           (record { start = start_moved l.start (phase.Leaving v) (phase.Broken f) l.path l.path x.start (λ d w. (refl, (omega arith))) begins; layers = hl; tally = counted; now = refl })
 
-  module _ (l r : PlainStrand) (x y z : LayeredStrand) (n : IsNotAtSpawn r.phase) (lower : r.lower ≡ []) (t u : Tally)
+  module _ (l r : PlainStrand) (x y z : LayeredStrand) (n : IsNotAtSpawn r.phase) (lower : r.lower ≡ []) (behind_child : IsBehind r.start) (t u : Tally)
       (hl : StandsFor setting l x t) (hr : StandsFor setting r y u) where
-    by_left : (ph : Phase) (below : List PlainActivation) → IsStart l.start ph l.path x.start → StandsAt setting ph below l x → joined_pair setting.program setting.tables setting.memory x x.phase y y.phase ≡ Some z → StandsFor setting (joined_at ph l r) z (tallies_joined t u)
-    by_left (phase.Broken f) below i h e =
+    by_left : (ph : Phase) (below : List PlainActivation) → NestAt setting.codes ph l → IsLayeredAt ph l → IsStart l.start ph l.path x.start → StandsAt setting ph below l x → joined_pair setting.program setting.tables setting.memory x x.phase y y.phase ≡ Some z → StandsFor setting (joined_at ph l r) z (tallies_joined t u)
+    by_left (phase.Broken f) below nested long i h e =
         let same : Some (broken_pair setting.program setting.tables setting.memory x y (named_fault setting f)) ≡ Some z = sym (ap (λ p. joined_pair setting.program setting.tables setting.memory x p y y.phase) h) ∙ e in
         subst (λ w. StandsFor setting (joined_broken l r f) w (tallies_joined t u)) (let q : broken_pair setting.program setting.tables setting.memory x y (named_fault setting f) ≡ z = cc in q) (record { start = i; layers = hl.layers; tally = both_counted l.tally r.tally t u hl.tally hr.tally; now = refl })
-    by_left (phase.Leaving v) below i h e =
-        by_right l r x y t u v lower i hl.layers hr.layers (both_counted l.tally r.tally t u hl.tally hr.tally) (ap (λ fr. fr.instance) h.frame) z r.phase n hr.start hr.now (sym (ap (λ p. joined_pair setting.program setting.tables setting.memory x p y y.phase) h.phase) ∙ e)
-    by_left phase.Entering below i h e = let none : None ≡ Some z = sym (ap (λ p. joined_pair setting.program setting.tables setting.memory x p y y.phase) h.phase) ∙ e in absurd cc
-    by_left phase.Running below i h e = let none : None ≡ Some z = sym (ap (λ p. joined_pair setting.program setting.tables setting.memory x p y y.phase) h.phase) ∙ e in absurd cc
-    by_left phase.AtSpawn [] i h e = absurd h
-    by_left phase.AtSpawn (p ∷ below) i h e = let none : None ≡ Some z = sym (ap (λ p. joined_pair setting.program setting.tables setting.memory x p y y.phase) h.phase) ∙ e in absurd cc
-    by_left (phase.Returning w) below i h e = let none : None ≡ Some z = sym (ap (λ p. joined_pair setting.program setting.tables setting.memory x p y y.phase) h.phase) ∙ e in absurd cc
+    by_left (phase.Leaving v) below nested long i h e =
+        by_right l r x y t u v lower behind_child nested long i hl.layers hr.layers (both_counted l.tally r.tally t u hl.tally hr.tally) (ap (λ fr. fr.instance) h.frame) z r.phase n hr.start hr.now (sym (ap (λ p. joined_pair setting.program setting.tables setting.memory x p y y.phase) h.phase) ∙ e)
+    by_left phase.Entering below nested long i h e = let none : None ≡ Some z = sym (ap (λ p. joined_pair setting.program setting.tables setting.memory x p y y.phase) h.phase) ∙ e in absurd cc
+    by_left phase.Running below nested long i h e = let none : None ≡ Some z = sym (ap (λ p. joined_pair setting.program setting.tables setting.memory x p y y.phase) h.phase) ∙ e in absurd cc
+    by_left phase.AtSpawn [] nested long i h e = absurd h
+    by_left phase.AtSpawn (p ∷ below) nested long i h e = let none : None ≡ Some z = sym (ap (λ p. joined_pair setting.program setting.tables setting.memory x p y y.phase) h.phase) ∙ e in absurd cc
+    by_left (phase.Returning w) below nested long i h e = let none : None ≡ Some z = sym (ap (λ p. joined_pair setting.program setting.tables setting.memory x p y y.phase) h.phase) ∙ e in absurd cc
 
   pub joined_is : (l r : PlainStrand) → IsJoined setting l r (joined l r)
-  joined_is l r x y z t u n lower hl hr e = by_left l r x y z n lower t u hl hr l.phase l.below hl.start hl.now e
+  joined_is l r x y z t u n lower behind_child nested long hl hr e = by_left l r x y z n lower behind_child t u hl hr l.phase l.below nested long hl.start hl.now e

@@ -10,6 +10,7 @@ use Rattle.trail_theory.specs.OwnLayers.{is_top_by_length}
 use Rattle.trail_theory.specs.Unflagged.{unflagged_step}
 use Rattle.positions.specs.declared.phase.Phase.{Phase}
 use Rattle.positions.specs.declared.phase.Phase.TheVariants as phase
+use Rattle.positions.specs.declared.start.Start.{Start}
 use Rattle.positions.specs.Setting.{Setting, IsLinked, HasItsTables, HasItsRecords, by_own_names}
 use Rattle.positions.specs.Activations.{PlainActivation}
 use Rattle.positions.specs.Layers.{PlainLayer, below_top}
@@ -50,11 +51,11 @@ unless_closes false st h = h
 
 -- ---- how many layers there are
 
-same_count : (setting : Setting) (ls : List PlainLayer) (ns : List Notes) → AreNotes setting ls ns → length ls ≡ length ns
-same_count setting [] [] h = refl
-same_count setting [] (n ∷ ns) h = absurd h
-same_count setting (l ∷ ls) [] h = absurd h
-same_count setting (l ∷ ls) (n ∷ ns) h = ap suc (same_count setting ls ns h.1)
+same_count : (setting : Setting) (st : Start) (ls : List PlainLayer) (ns : List Notes) → AreNotes setting st ls ns → length ls ≡ length ns
+same_count setting st [] [] h = refl
+same_count setting st [] (n ∷ ns) h = absurd h
+same_count setting st (l ∷ ls) [] h = absurd h
+same_count setting st (l ∷ ls) (n ∷ ns) h = ap suc (same_count setting st ls ns h.1)
 
 noted_count : (ls : List Notes) (es : Log) → length (noted_top ls es) ≡ length ls
 noted_count [] es = refl
@@ -65,31 +66,31 @@ module _ (setting : Setting) where
   taken_count n [] = refl
   taken_count n (l ∷ ls) = refl
 
-  module _ (x : LayeredStrand) (l l' : PlainLayer) (lower lower' : List PlainLayer) (kits : ℕ) (old : AreNotes setting (l ∷ lower) x.layers) where
+  module _ (from to : Start) (x : LayeredStrand) (l l' : PlainLayer) (lower lower' : List PlainLayer) (kits : ℕ) (old : AreNotes setting from (l ∷ lower) x.layers) where
     -- a step that closes none
-    counted : (st : Step) → ClosesNone st → AreNotes setting (l' ∷ lower') (advanced setting.program.tree x (unflagged_step st)).layers → kits_by (unflagged_step st) kits ≡ kits_then lower lower' kits
+    counted : (st : Step) → ClosesNone st → AreNotes setting to (l' ∷ lower') (advanced setting.program.tree x (unflagged_step st)).layers → kits_by (unflagged_step st) kits ≡ kits_then lower lower' kits
     counted (moved noting es fr ph under) none new =
-        let before : suc (length lower) ≡ length x.layers = same_count setting (l ∷ lower) x.layers old in
-        let after : suc (length lower') ≡ length x.layers = same_count setting (l' ∷ lower') (noted_top x.layers es) new ∙ noted_count x.layers es in
+        let before : suc (length lower) ≡ length x.layers = same_count setting from (l ∷ lower) x.layers old in
+        let after : suc (length lower') ≡ length x.layers = same_count setting to (l' ∷ lower') (noted_top x.layers es) new ∙ noted_count x.layers es in
         omega arith
     counted (moved opening_one es fr ph under) none new =
-        let before : suc (length lower) ≡ length x.layers = same_count setting (l ∷ lower) x.layers old in
-        let after : length lower' ≡ length x.layers = same_count setting lower' (noted_top x.layers (ahead_of_entry es)) new.1 ∙ noted_count x.layers (ahead_of_entry es) in
+        let before : suc (length lower) ≡ length x.layers = same_count setting from (l ∷ lower) x.layers old in
+        let after : length lower' ≡ length x.layers = same_count setting to lower' (noted_top x.layers (ahead_of_entry es)) new.1 ∙ noted_count x.layers (ahead_of_entry es) in
         omega arith
     counted (moved closing_one es fr ph under) none new = absurd none
     counted (taken es k fr ph under) none new =
-        let before : suc (length lower) ≡ length x.layers = same_count setting (l ∷ lower) x.layers old in
-        let after : suc (length lower') ≡ length x.layers = same_count setting (l' ∷ lower') _ new ∙ taken_count _ (noted_top x.layers es) ∙ noted_count x.layers es in
+        let before : suc (length lower) ≡ length x.layers = same_count setting from (l ∷ lower) x.layers old in
+        let after : suc (length lower') ≡ length x.layers = same_count setting to (l' ∷ lower') _ new ∙ taken_count _ (noted_top x.layers es) ∙ noted_count x.layers es in
         omega arith
     counted (paused_step p) none new =
-        let before : suc (length lower) ≡ length x.layers = same_count setting (l ∷ lower) x.layers old in
-        let after : suc (length lower') ≡ length x.layers = same_count setting (l' ∷ lower') x.layers new in
+        let before : suc (length lower) ≡ length x.layers = same_count setting from (l ∷ lower) x.layers old in
+        let after : suc (length lower') ≡ length x.layers = same_count setting to (l' ∷ lower') x.layers new in
         omega arith
 
 -- ---- each phase
 
 module _ (setting : Setting) (kit : Bool) (linked : IsLinked (by_own_names setting)) (records : HasItsRecords (by_own_names setting)) (s : PlainStrand) (x : LayeredStrand) (t : Tally) (kits : ℕ)
-    (hl : AreNotes (by_own_names setting) (s.layer ∷ s.lower) x.layers) (counts : IsTally (by_own_names setting) s.tally t) where
+    (hl : AreNotes (by_own_names setting) s.start (s.layer ∷ s.lower) x.layers) (counts : IsTally (by_own_names setting) s.tally t) where
   abbrev in_place : Phase → List PlainActivation → PlainStrand
   in_place ph below = record s { phase = ph; below = below }
 
@@ -131,7 +132,7 @@ module _ (setting : Setting) (kit : Bool) (linked : IsLinked (by_own_names setti
   follows : (ph : Phase) (below : List PlainActivation) → IsStart s.start ph s.path x.start → StandsAt (by_own_names setting) ph below (in_place ph below) x → HoldsAt setting kit linked records s x t hl counts ph x
       → GoesOn x.phase → Follows (then_in ph below) (by_names x x.phase)
   follows ph below begins h hold on =
-      counted (by_own_names setting) x s.layer (then_in ph below).layer s.lower (then_in ph below).lower kits hl (by_names x x.phase) (goes_on x.phase on)
+      counted (by_own_names setting) s.start (then_in ph below).start x s.layer (then_in ph below).layer s.lower (then_in ph below).lower kits hl (by_names x x.phase) (goes_on x.phase on)
       (phase_is setting kit linked records s x t hl counts ph below begins h hold).layers
 
   -- ---- an instance that returns

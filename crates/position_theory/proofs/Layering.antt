@@ -19,9 +19,9 @@ use Rattle.evaluation.specs.declared.note.Note.{Note}
 use Rattle.evaluation.specs.Numbers.{numbered, readings, OnlyReads}
 use Rattle.positions.specs.Setting.{Setting, IsLinked}
 use Rattle.record_theory.specs.Named.{SameMembers}
-use Rattle.positions.specs.Code.{may_record}
 use Rattle.positions.specs.Layers.{PlainLayer, blank, flagged, kept_behind, noting, entering, updated_by, updating, begun_by, begun, lowest}
-use Rattle.positions.specs.Stands.{IsNotes, AreNotes}
+use Rattle.positions.specs.declared.start.Start.{Start}
+use Rattle.positions.specs.Stands.{IsKept, IsNotes, AreNotes}
 use Rattle.position_theory.proofs.Members.{members_same, members_then, members_append, members_by_parts}
 
 -- ---- what is noted one behind the other
@@ -53,11 +53,23 @@ flagged_append : (flags : List Bool) (ps : List ℕ) (p : ℕ) → flagged flags
 flagged_append flags [] p = refl
 flagged_append flags (q ∷ ps) p = flagged_append (slice_set flags q true) ps p
 
+updated_is : (r : ℕ) (kind : Kind) (vs : List ℤ) (worths : List Worth) (w : Option Worth) → updated worths r kind (element_of kind vs) w ≡ updated_by r kind vs worths w
+updated_is r kind vs worths None = refl
+updated_is r kind vs worths (Some w) = refl
+
+updated_each : (r : ℕ) (kind : Kind) (vs : List ℤ) (worths : List Worth) (w : Option Worth) → length (updated_by r kind vs worths w) ≡ length worths
+updated_each r kind vs worths None = refl
+updated_each r kind vs worths (Some w) = length-set worths r (operate kind w (element_of kind vs))
+
+same_identities : (reds : List Red) → map (λ r. identity_of r.kind) reds ≡ identities (map (λ r. r.kind) reds)
+same_identities [] = refl
+same_identities (r ∷ reds) = ap (λ ws. identity_of r.kind ∷ ws) (same_identities reds)
+
 -- ---- a layer by numbers
 
-module _ (setting : Setting) where
+module _ (setting : Setting) {st : Start} {lower : List PlainLayer} where
   -- readings behind those that the layer has noted itself
-  more_read : (l : PlainLayer) (n : Notes) (rs : List Note) → IsNotes setting l n → l.keeps ≡ true → SameMembers ((l.notes ++ rs) ++ l.shared) (map (numbered setting.names) n.read ++ rs)
+  more_read : (l : PlainLayer) (n : Notes) (rs : List Note) → IsNotes setting st lower l n → l.keeps ≡ true → SameMembers ((l.notes ++ rs) ++ l.shared) (map (numbered setting.names) n.read ++ rs)
   more_read l n rs i keeps =
       let old : List Note = map (numbered setting.names) n.read in
       members_then ((l.notes ++ rs) ++ l.shared) ((l.notes ++ l.shared) ++ rs) (old ++ rs)
@@ -65,10 +77,10 @@ module _ (setting : Setting) where
       (subst (λ us. SameMembers ((l.notes ++ rs) ++ (l.shared ++ [])) ((l.notes ++ l.shared) ++ us)) (append-nil rs) (members_by_parts l.notes l.shared rs [])))
       (members_append (l.notes ++ l.shared) old rs rs (i.notes keeps) (members_same rs rs refl))
 
-  pub notes_read : (l : PlainLayer) (n : Notes) (log : Log) → OnlyReads log → IsNotes setting l n
-      → IsNotes setting (noting (map (numbered setting.names) (readings log)) l) (definitions.noted n log)
+  pub notes_read : (l : PlainLayer) (n : Notes) (log : Log) → OnlyReads log → IsNotes setting st lower l n
+      → IsNotes setting st lower (noting (map (numbered setting.names) (readings log)) l) (definitions.noted n log)
   notes_read l n log h i =
-      subst (IsNotes setting (noting (map (numbered setting.names) (readings log)) l)) (sym (noted_reads n log h))
+      subst (IsNotes setting st lower (noting (map (numbered setting.names) (readings log)) l)) (sym (noted_reads n log h))
       (record {
         keeps = i.keeps;
         kinds = i.kinds;
@@ -82,8 +94,8 @@ module _ (setting : Setting) where
         deepest = i.deepest;
       })
 
-  pub notes_entered : (l : PlainLayer) (n : Notes) (f : Name) (args : List ℤ) (p depth : ℕ) → procedure_number (procedures setting.program.tree) f ≡ p → IsNotes setting l n
-      → IsNotes setting (entering p depth l) (noted_one n (Enters f args depth))
+  pub notes_entered : (l : PlainLayer) (n : Notes) (f : Name) (args : List ℤ) (p depth : ℕ) → procedure_number (procedures setting.program.tree) f ≡ p → IsNotes setting st lower l n
+      → IsNotes setting st lower (entering p depth l) (noted_one n (Enters f args depth))
   notes_entered l n f args p depth e i = record {
     keeps = i.keeps;
     kinds = i.kinds;
@@ -98,16 +110,8 @@ module _ (setting : Setting) where
     deepest = ap (λ d. max d depth) i.deepest;
   }
 
-  updated_is : (r : ℕ) (kind : Kind) (vs : List ℤ) (worths : List Worth) (w : Option Worth) → updated worths r kind (element_of kind vs) w ≡ updated_by r kind vs worths w
-  updated_is r kind vs worths None = refl
-  updated_is r kind vs worths (Some w) = refl
-
-  updated_each : (r : ℕ) (kind : Kind) (vs : List ℤ) (worths : List Worth) (w : Option Worth) → length (updated_by r kind vs worths w) ≡ length worths
-  updated_each r kind vs worths None = refl
-  updated_each r kind vs worths (Some w) = length-set worths r (operate kind w (element_of kind vs))
-
-  pub notes_updated : (l : PlainLayer) (n : Notes) (r : ℕ) (kind : Kind) (vs : List ℤ) → IsNotes setting l n
-      → IsNotes setting (updating r kind vs l) (noted_one n (Updates r kind (element_of kind vs)))
+  pub notes_updated : (l : PlainLayer) (n : Notes) (r : ℕ) (kind : Kind) (vs : List ℤ) → IsNotes setting st lower l n
+      → IsNotes setting st lower (updating r kind vs l) (noted_one n (Updates r kind (element_of kind vs)))
   notes_updated l n r kind vs i = record {
     keeps = i.keeps;
     kinds = i.kinds;
@@ -118,16 +122,14 @@ module _ (setting : Setting) where
     deepest = i.deepest;
   }
 
-  -- ---- the layers of a strand
+-- ---- the layers of a strand
 
-  pub top_noted : (l k : PlainLayer) (lower : List PlainLayer) (ls : List Notes) (es : Log)
-      → ((n : Notes) → IsNotes setting l n → IsNotes setting k (definitions.noted n es)) → AreNotes setting (l ∷ lower) ls → AreNotes setting (k ∷ lower) (noted_top ls es)
-  top_noted l k lower [] es f h = absurd h
-  top_noted l k lower (n ∷ ns) es f h = (f n h.0, h.1)
-
-  pub top_read : (l : PlainLayer) (lower : List PlainLayer) (ls : List Notes) (log : Log) → OnlyReads log → AreNotes setting (l ∷ lower) ls
-      → AreNotes setting (noting (map (numbered setting.names) (readings log)) l ∷ lower) (noted_top ls log)
-  top_read l lower ls log h = top_noted l (noting (map (numbered setting.names) (readings log)) l) lower ls log (λ n. notes_read l n log h)
+module _ (setting : Setting) where
+  as_many : (cs : List Code) (ps : List Proc) → AreCodesOf setting.names setting.program.tree cs ps → length cs ≡ length ps
+  as_many [] [] h = refl
+  as_many [] (p ∷ ps) h = absurd h
+  as_many (c ∷ cs) [] h = absurd h
+  as_many (c ∷ cs) (p ∷ ps) h = ap suc (as_many cs ps h.1)
 
   -- the reducers' values of the lowest layer
   pub record IsLowest (l : PlainLayer) (worth : Accumulators) : Type 0 where
@@ -135,7 +137,17 @@ module _ (setting : Setting) where
     pub worths : worth ≡ l.worths
     pub each : length l.worths ≡ length l.kinds
 
-  pub bottom_is : (l : PlainLayer) (lower : List PlainLayer) (ls : List Notes) → AreNotes setting (l ∷ lower) ls → IsLowest (lowest l lower) (bottom ls)
+module _ (setting : Setting) (st : Start) where
+  pub top_noted : (l k : PlainLayer) (lower : List PlainLayer) (ls : List Notes) (es : Log)
+      → ((n : Notes) → IsNotes setting st lower l n → IsNotes setting st lower k (definitions.noted n es)) → AreNotes setting st (l ∷ lower) ls → AreNotes setting st (k ∷ lower) (noted_top ls es)
+  top_noted l k lower [] es f h = absurd h
+  top_noted l k lower (n ∷ ns) es f h = (f n h.0, h.1)
+
+  pub top_read : (l : PlainLayer) (lower : List PlainLayer) (ls : List Notes) (log : Log) → OnlyReads log → AreNotes setting st (l ∷ lower) ls
+      → AreNotes setting st (noting (map (numbered setting.names) (readings log)) l ∷ lower) (noted_top ls log)
+  top_read l lower ls log h = top_noted l (noting (map (numbered setting.names) (readings log)) l) lower ls log (λ n. notes_read setting l n log h)
+
+  pub bottom_is : (l : PlainLayer) (lower : List PlainLayer) (ls : List Notes) → AreNotes setting st (l ∷ lower) ls → IsLowest setting (lowest l lower) (bottom ls)
   bottom_is l [] [] h = absurd h
   bottom_is l [] (n ∷ []) h = record { kinds = h.0.kinds; worths = h.0.worths; each = h.0.each }
   bottom_is l [] (n ∷ m ∷ ns) h = absurd h.1
@@ -143,37 +155,28 @@ module _ (setting : Setting) where
   bottom_is l (k ∷ lower) (n ∷ []) h = absurd h.1
   bottom_is l (k ∷ lower) (n ∷ m ∷ ns) h = bottom_is k lower (m ∷ ns) h.1
 
-  -- ---- a layer that begins
+-- ---- a layer that begins
 
-  as_many : (cs : List Code) (ps : List Proc) → AreCodesOf setting.names setting.program.tree cs ps → length cs ≡ length ps
-  as_many [] [] h = refl
-  as_many [] (p ∷ ps) h = absurd h
-  as_many (c ∷ cs) [] h = absurd h
-  as_many (c ∷ cs) (p ∷ ps) h = ap suc (as_many cs ps h.1)
-
-  same_identities : (reds : List Red) → map (λ r. identity_of r.kind) reds ≡ identities (map (λ r. r.kind) reds)
-  same_identities [] = refl
-  same_identities (r ∷ reds) = ap (λ ws. identity_of r.kind ∷ ws) (same_identities reds)
-
-  pub blank_is : (keeps : Bool) → keeps ≡ may_record setting.codes → IsLinked setting → IsNotes setting (blank keeps setting.kinds (length setting.codes)) (definitions.blank setting.program.tree)
+module _ (setting : Setting) {st : Start} {lower : List PlainLayer} where
+  pub blank_is : (keeps : Bool) → IsKept setting st lower keeps → IsLinked setting → IsNotes setting st lower (blank keeps setting.kinds (length setting.codes)) (definitions.blank setting.program.tree)
   blank_is keeps e linked = record {
     keeps = e;
     kinds = linked.kinds;
     worths = same_identities (reducers setting.program.tree) ∙ ap identities (sym linked.kinds);
     each = length-map setting.kinds identity_of;
     notes = λ k. members_same [] [] refl;
-    entered = ap (λ n. replicate n false) (as_many setting.codes (procedures setting.program.tree) linked.codes);
+    entered = ap (λ n. replicate n false) (as_many setting setting.codes (procedures setting.program.tree) linked.codes);
     deepest = refl;
   }
 
   -- a layer that the initial values are put onto
-  pub begun_is : (is : List PlainInitial) (es : Log) (l : PlainLayer) (n : Notes) → AreUpdatesBy setting.kinds is es → IsNotes setting l n
-      → IsNotes setting (begun setting.kinds is l) (definitions.noted n es)
+  pub begun_is : (is : List PlainInitial) (es : Log) (l : PlainLayer) (n : Notes) → AreUpdatesBy setting.kinds is es → IsNotes setting st lower l n
+      → IsNotes setting st lower (begun setting.kinds is l) (definitions.noted n es)
   begun_is [] [] l n h k = k
   begun_is [] (e ∷ es) l n h k = absurd h
   begun_is (i ∷ is) [] l n h k = absurd h
   begun_is (i ∷ is) (e ∷ es) l n h k =
       begun_is is es (begun_by (slice_get setting.kinds i.reducer) i l) (noted_one n e) h.1
-      (subst (λ o. IsNotes setting (begun_by o i l) (noted_one n e)) (sym h.0.there)
-      (subst (λ f. IsNotes setting (updating i.reducer h.0.kind i.numbers l) (noted_one n f)) (sym h.0.is)
-      (notes_updated l n i.reducer h.0.kind i.numbers k)))
+      (subst (λ o. IsNotes setting st lower (begun_by o i l) (noted_one n e)) (sym h.0.there)
+      (subst (λ f. IsNotes setting st lower (updating i.reducer h.0.kind i.numbers l) (noted_one n f)) (sym h.0.is)
+      (notes_updated setting l n i.reducer h.0.kind i.numbers k)))

@@ -6,6 +6,7 @@ pub mod Entries
 pub mod Evaluations
 pub mod Joins
 pub mod Layered
+pub mod Nested
 pub mod Layering
 pub mod Loops
 pub mod Members

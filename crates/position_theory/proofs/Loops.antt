@@ -52,9 +52,9 @@ module _ (setting : Setting) (kit : Bool) (linked : IsLinked (by_own_names setti
   abbrev ByStep : PlainStrand → List Notes → Step → Type 0
   ByStep s ks st' = Comes (by_own_names setting) s (strand_at m ks fr ph under) t st'
 
-  module _ (l : PlainLayer) (ls : List Notes) (hl : AreNotes (by_own_names setting) (l ∷ lower) ls) where
-    unnoted : AreNotes (by_own_names setting) (l ∷ lower) (noted_top ls [])
-    unnoted = subst (AreNotes (by_own_names setting) (l ∷ lower)) (sym (top_none ls)) hl
+  module _ (l : PlainLayer) (ls : List Notes) (hl : AreNotes (by_own_names setting) st (l ∷ lower) ls) where
+    unnoted : AreNotes (by_own_names setting) st (l ∷ lower) (noted_top ls [])
+    unnoted = subst (AreNotes (by_own_names setting) st (l ∷ lower)) (sym (top_none ls)) hl
 
     -- one by one from here on
     turns_next : (k : ℕ) (h : Share) → ByStep (with_top (at (Turns loop h) (at (Halves loop k h) a)) (plain_at (Halves loop k h) l)) ls (moved noting [] fr (running (turns job h.count h.first)) under)

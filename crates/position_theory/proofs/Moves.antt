@@ -21,9 +21,10 @@ use Rattle.positions.specs.declared.work.Work.{Work}
 use Rattle.positions.specs.declared.work.Work.TheVariants.{Block, Halves}
 use Rattle.positions.specs.declared.phase.Phase.{Phase}
 use Rattle.positions.specs.declared.phase.Phase.TheVariants as phase
+use Rattle.positions.specs.declared.start.Start.{Start}
 use Rattle.positions.specs.Setting.{Setting, IsLinked}
 use Rattle.positions.specs.Activations.{PlainActivation, bound, made, first_of}
-use Rattle.positions.specs.Code.{may_record}
+use Rattle.positions.specs.Code.{may_nest}
 use Rattle.positions.specs.Layers.{PlainLayer, blank, lowest}
 use Rattle.positions.specs.Tallies.{no_tally as plain_no_tally}
 use Rattle.positions.specs.Strands.{PlainStrand, PlainTask, shorter}
@@ -227,7 +228,7 @@ module _ (setting : Setting) where
     pub stolen_is : (task : PlainTask) → IsStolen setting task (stolen setting.codes setting.kinds task)
     stolen_is task k h = record {
       start = (ap (λ fr. fr.instance) h.parent.frame ∙ sym (take-take (length task.place - 1) (length task.place - 1) task.place (omega arith)), h.child, short);
-      layers = (blank_is setting (may_record setting.codes) refl linked, tt);
+      layers = (blank_is setting (may_nest setting.codes) refl linked, tt);
       tally = nothing_counted;
       now = record {
         todo = k.parent.todo;
@@ -249,8 +250,8 @@ module _ (setting : Setting) where
     first_is initials updates entry e = record {
       start = tt;
       layers = (
-        begun_is setting initials (beginning setting.program.tree) (blank (may_record setting.codes) setting.kinds (length setting.codes)) (named_blank setting.program.tree) updates
-            (blank_is setting (may_record setting.codes) refl linked),
+        begun_is setting initials (beginning setting.program.tree) (blank false setting.kinds (length setting.codes)) (named_blank setting.program.tree) updates
+            (blank_is setting false refl linked),
         tt,
       );
       tally = nothing_counted;
@@ -279,14 +280,14 @@ module _ (setting : Setting) where
 
   -- ---- the lowest layer alone
 
-  bottom_notes : (l : PlainLayer) (lower : List PlainLayer) (ls : List Notes) → AreNotes setting (l ∷ lower) ls
-      → AreNotes setting (lowest l lower ∷ []) (bottom_alone setting.program setting.tables setting.memory ls)
-  bottom_notes l [] [] h = absurd h
-  bottom_notes l [] (n ∷ []) h = h
-  bottom_notes l [] (n ∷ m ∷ ns) h = absurd h.1
-  bottom_notes l (k ∷ lower) [] h = absurd h
-  bottom_notes l (k ∷ lower) (n ∷ []) h = absurd h.1
-  bottom_notes l (k ∷ lower) (n ∷ m ∷ ns) h = bottom_notes k lower (m ∷ ns) h.1
+  bottom_notes : (st : Start) (l : PlainLayer) (lower : List PlainLayer) (ls : List Notes) → AreNotes setting st (l ∷ lower) ls
+      → AreNotes setting st (lowest l lower ∷ []) (bottom_alone setting.program setting.tables setting.memory ls)
+  bottom_notes st l [] [] h = absurd h
+  bottom_notes st l [] (n ∷ []) h = h
+  bottom_notes st l [] (n ∷ m ∷ ns) h = absurd h.1
+  bottom_notes st l (k ∷ lower) [] h = absurd h
+  bottom_notes st l (k ∷ lower) (n ∷ []) h = absurd h.1
+  bottom_notes st l (k ∷ lower) (n ∷ m ∷ ns) h = bottom_notes st k lower (m ∷ ns) h.1
 
   alone_at : (s : PlainStrand) (x : LayeredStrand) (ls : List Notes) (l : PlainLayer) (ph : Phase) (below : List PlainActivation) → StandsAt setting ph below s x → StandsAt setting ph below (record s { layer = l; lower = [] }) (record x { layers = ls })
   alone_at s x ls l phase.Entering below h = record { child = h.child; new = h.new; phase = h.phase; frame = h.frame; under = h.under }
@@ -300,7 +301,7 @@ module _ (setting : Setting) where
   pub alone_is : (s : PlainStrand) → IsAlone setting s (lowest_alone s)
   alone_is s x t h = record {
     start = h.start;
-    layers = bottom_notes s.layer s.lower x.layers h.layers;
+    layers = bottom_notes s.start s.layer s.lower x.layers h.layers;
     tally = h.tally;
     now = alone_at s x (bottom_alone setting.program setting.tables setting.memory x.layers) (lowest s.layer s.lower) s.phase s.below h.now;
   }

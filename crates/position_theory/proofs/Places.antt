@@ -1,5 +1,5 @@
 -- The statement at a place of the code is that at the place of the tree.
-use Rattle.std.proofs.Common.{◌≡◌, ℕ, zero, suc, ◌+◌, ◌-◌, ◌<◌, ◌≤◌, Bool, true, false, ◌||◌, if◌then◌else◌, List, [], ◌∷◌, length, Option, Some, None, refl, sym, ◌∙◌, ap, subst, arith}
+use Rattle.std.proofs.Common.{◌≡◌, ℕ, zero, suc, ◌+◌, ◌-◌, ◌<◌, ◌≤◌, Bool, true, false, if◌then◌else◌, List, [], ◌∷◌, length, Option, Some, None, refl, sym, ◌∙◌, ap, subst, arith}
 use Rattle.std.specs.Prelude.{nat_lt, slice_get}
 use Rattle.std.proofs.lemmas.Bool.Decides.{nat_tests}
 use Rattle.meaning.specs.Tree.{Deed, Body, end, step, Proc}
@@ -14,7 +14,7 @@ use Rattle.linked_program.proofs.Numbers.{procedure_is}
 use Rattle.positions.specs.declared.work.Position.{Position}
 use Rattle.positions.specs.Activations.{next_of, first_of}
 use Rattle.positions.specs.Setting.{Setting}
-use Rattle.positions.specs.Code.{may_record, blocks_at, instruction_inside}
+use Rattle.positions.specs.Code.{blocks_at, instruction_inside}
 use Rattle.positions.specs.Stands.{acts_from, acts_at, procedure_at}
 
 -- an instruction and what follows it, or nothing
@@ -48,16 +48,6 @@ at_level blocks depth b k false e =
     let more : length blocks ≤ depth = grind (arith, nat_tests) in
     let none : length blocks - depth ≡ 0 = omega arith in
     subst (λ n. acts_from k (code_block blocks n b) ≡ ends) (sym none) (nothing_from k)
-
-or_true : (b : Bool) → (b || true) ≡ true
-or_true true = refl
-or_true false = refl
-
--- where a procedure's instances are recorded, a run may make records
-pub recorded_somewhere : (cs : List Code) (p : ℕ) → memo_of cs p ≡ true → may_record cs ≡ true
-recorded_somewhere [] p e = absurd cc
-recorded_somewhere (c ∷ cs) zero e = ap (λ b. b || may_record cs) e
-recorded_somewhere (c ∷ cs) (suc p) e = ap (λ b. c.memo || b) (recorded_somewhere cs p e) ∙ or_true c.memo
 
 module _ (setting : Setting) where
   -- a statement and what follows it

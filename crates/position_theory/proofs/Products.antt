@@ -17,8 +17,9 @@ use Rattle.evaluation.specs.Numbers.{numbered}
 use Rattle.record_theory.specs.Record.{PlainRecord}
 use Rattle.record_theory.specs.Named.{SameMembers, IsRecord, filled, number_of, numbered_entry}
 use Rattle.positions.specs.Setting.{Setting, IsLinked}
-use Rattle.positions.specs.Layers.{PlainLayer, either, flagged, multiplied, kept_reads, covered, absorbing, closed_onto, below_top}
+use Rattle.positions.specs.Layers.{PlainLayer, kept_behind, either, flagged, multiplied, kept_reads, covered, absorbing, closed_onto, below_top}
 use Rattle.positions.specs.Values.{once}
+use Rattle.positions.specs.declared.start.Start.{Start}
 use Rattle.positions.specs.Stands.{IsNotes, AreNotes}
 use Rattle.position_theory.proofs.Members.{members_same, members_then, members_append, members_by_parts, members_mapped, map_map}
 use Rattle.position_theory.proofs.Once.{once_is}
@@ -79,12 +80,12 @@ module _ (setting : Setting) where
   none_entered = replicate (length (procedures setting.program.tree)) false
 
   -- what a record keeps of a layer's readings
-  pub kept_reads_are : (l : PlainLayer) (n : Notes) → IsNotes setting l n → l.keeps ≡ true → SameMembers (kept_reads l) (map (numbered setting.names) n.read)
+  pub kept_reads_are : {st : Start} {lower : List PlainLayer} (l : PlainLayer) (n : Notes) → IsNotes setting st lower l n → l.keeps ≡ true → SameMembers (kept_reads l) (map (numbered setting.names) n.read)
   kept_reads_are l n h keeps =
       members_then (kept_reads l) (l.notes ++ l.shared) (map (numbered setting.names) n.read)
       (members_append (once l.notes) l.notes l.shared l.shared (once_is l.notes) (members_same l.shared l.shared refl)) (h.notes keeps)
 
-  module _ (l : PlainLayer) (n : Notes) (h : IsNotes setting l n) where
+  module _ {st : Start} {lower : List PlainLayer} (l : PlainLayer) (n : Notes) (h : IsNotes setting st lower l n) where
     length_kinds : length l.kinds ≡ length (reducers setting.program.tree)
     length_kinds = ap length h.kinds ∙ length-map (reducers setting.program.tree) (λ x. x.kind)
 
@@ -101,25 +102,24 @@ module _ (setting : Setting) where
     read_behind keeps rs us = members_append (l.notes ++ l.shared) (map (numbered setting.names) n.read) rs us (h.notes keeps)
 
     -- readings that it shares
-    shared_behind : l.keeps ≡ true → (rs : List Note) (us : List Reading) → SameMembers rs (map (numbered setting.names) us) → SameMembers (l.notes ++ (l.shared ++ rs)) (map (numbered setting.names) (n.read ++ us))
+    shared_behind : l.keeps ≡ true → (rs : List Note) (us : List Reading) → SameMembers rs (map (numbered setting.names) us) → SameMembers (l.notes ++ kept_behind l.keeps l.shared rs) (map (numbered setting.names) (n.read ++ us))
     shared_behind keeps rs us e =
-        subst (SameMembers (l.notes ++ (l.shared ++ rs))) (sym (map-append (numbered setting.names) n.read us))
-        (subst (λ vs. SameMembers vs (map (numbered setting.names) n.read ++ map (numbered setting.names) us)) (append_assoc l.notes l.shared rs) (read_behind keeps rs (map (numbered setting.names) us) e))
+        subst (λ b. SameMembers (l.notes ++ kept_behind b l.shared rs) (map (numbered setting.names) (n.read ++ us))) (sym keeps)
+        (subst (SameMembers (l.notes ++ (l.shared ++ rs))) (sym (map-append (numbered setting.names) n.read us))
+        (subst (λ vs. SameMembers vs (map (numbered setting.names) n.read ++ map (numbered setting.names) us)) (append_assoc l.notes l.shared rs) (read_behind keeps rs (map (numbered setting.names) us) e)))
 
-    -- a layer behind it keeps what was read too
-    keeps_too : (r : PlainLayer) (m : Notes) → IsNotes setting r m → l.keeps ≡ true → r.keeps ≡ true
-    keeps_too r m i keeps = i.keeps ∙ sym h.keeps ∙ keeps
-
-    pub notes_multiplied : (r : PlainLayer) (m : Notes) → IsNotes setting r m → IsNotes setting (multiplied l r) (definitions.multiplied setting.program.tree n m)
-    notes_multiplied r m i = record {
+    pub notes_multiplied : {from : Start} {under : List PlainLayer} (r : PlainLayer) (m : Notes) → (l.keeps ≡ true → r.keeps ≡ true) → IsNotes setting from under r m
+        → IsNotes setting st lower (multiplied l r) (definitions.multiplied setting.program.tree n m)
+    notes_multiplied r m too i = record {
       keeps = h.keeps;
       kinds = h.kinds;
       worths = worths_behind r.worths m.worth i.worths (i.each ∙ ap length (i.kinds ∙ sym h.kinds));
       each = length_operated l.kinds l.worths r.worths h.each (i.each ∙ ap length (i.kinds ∙ sym h.kinds));
       notes = λ keeps.
-          subst (SameMembers ((l.notes ++ r.notes) ++ (l.shared ++ r.shared))) (sym (map-append (numbered setting.names) n.read m.read))
+          subst (λ b. SameMembers (kept_behind b l.notes r.notes ++ kept_behind b l.shared r.shared) (map (numbered setting.names) (n.read ++ m.read))) (sym keeps)
+          (subst (SameMembers ((l.notes ++ r.notes) ++ (l.shared ++ r.shared))) (sym (map-append (numbered setting.names) n.read m.read))
           (members_then ((l.notes ++ r.notes) ++ (l.shared ++ r.shared)) ((l.notes ++ l.shared) ++ (r.notes ++ r.shared)) (map (numbered setting.names) n.read ++ map (numbered setting.names) m.read)
-          (members_by_parts l.notes l.shared r.notes r.shared) (read_behind keeps (r.notes ++ r.shared) (map (numbered setting.names) m.read) (i.notes (keeps_too r m i keeps))));
+          (members_by_parts l.notes l.shared r.notes r.shared) (read_behind keeps (r.notes ++ r.shared) (map (numbered setting.names) m.read) (i.notes (too keeps)))));
       entered =
           ap (λ fs. either fs r.entered) h.entered
           ∙ ap (either (flagged none_entered (map (number_of setting.program.tree) n.entered))) i.entered
@@ -128,23 +128,23 @@ module _ (setting : Setting) where
       deepest = ap (λ d. max d m.deepest) h.deepest ∙ ap (max l.deepest) i.deepest;
     }
 
-    -- the layer of an instance that becomes a record
-    pub notes_covered : (r : PlainLayer) (m : Notes) → IsNotes setting r m → IsNotes setting (covered l r) (definitions.multiplied setting.program.tree n m)
+    -- the layer of an instance that becomes a record, which keeps what was read
+    pub notes_covered : (r : PlainLayer) (m : Notes) → IsNotes setting st (l ∷ lower) r m → IsNotes setting st lower (covered l r) (definitions.multiplied setting.program.tree n m)
     notes_covered r m i =
-        let both : IsNotes setting (multiplied l r) (definitions.multiplied setting.program.tree n m) = notes_multiplied r m i in
+        let both : IsNotes setting st lower (multiplied l r) (definitions.multiplied setting.program.tree n m) = notes_multiplied r m (λ keeps. i.keeps) i in
         record {
           keeps = both.keeps;
           kinds = both.kinds;
           worths = both.worths;
           each = both.each;
-          notes = λ keeps. shared_behind keeps (kept_reads r) m.read (kept_reads_are r m i (keeps_too r m i keeps));
+          notes = λ keeps. shared_behind keeps (kept_reads r) m.read (kept_reads_are r m i i.keeps);
           entered = both.entered;
           deepest = both.deepest;
         }
 
     -- what a record has of an instance at that depth
     pub absorbed : IsLinked setting → (k : Kept) (r : PlainRecord) (depth : ℕ) → IsRecord setting.program.tree setting.names setting.kinds k r
-        → IsNotes setting (absorbing r depth l) (definitions.multiplied setting.program.tree n (notes_of k depth))
+        → IsNotes setting st lower (absorbing r depth l) (definitions.multiplied setting.program.tree n (notes_of k depth))
     absorbed linked k r depth i =
         let values : List Worth = filled (identities l.kinds) r.contribution in
         let same_kinds : setting.kinds ≡ l.kinds = linked.kinds ∙ sym h.kinds in
@@ -168,11 +168,11 @@ module _ (setting : Setting) where
         }
 
   -- the topmost layer goes into the one below it
-  pub closed_layers : (l : PlainLayer) (ls : List PlainLayer) (ns : List Notes) → AreNotes setting (l ∷ ls) ns
-      → AreNotes setting (closed_onto l ls ∷ below_top ls) (closed_top setting.program.tree ns)
-  closed_layers l [] [] h = absurd h
-  closed_layers l [] (n ∷ []) h = h
-  closed_layers l [] (n ∷ m ∷ ns) h = absurd h.1
-  closed_layers l (k ∷ ls) [] h = absurd h
-  closed_layers l (k ∷ ls) (n ∷ []) h = absurd h.1
-  closed_layers l (k ∷ ls) (n ∷ m ∷ ns) h = (notes_covered k m h.1.0 l n h.0, h.1.1)
+  pub closed_layers : (st : Start) (l : PlainLayer) (ls : List PlainLayer) (ns : List Notes) → AreNotes setting st (l ∷ ls) ns
+      → AreNotes setting st (closed_onto l ls ∷ below_top ls) (closed_top setting.program.tree ns)
+  closed_layers st l [] [] h = absurd h
+  closed_layers st l [] (n ∷ []) h = h
+  closed_layers st l [] (n ∷ m ∷ ns) h = absurd h.1
+  closed_layers st l (k ∷ ls) [] h = absurd h
+  closed_layers st l (k ∷ ls) (n ∷ []) h = absurd h.1
+  closed_layers st l (k ∷ ls) (n ∷ m ∷ ns) h = (notes_covered k m h.1.0 l n h.0, h.1.1)

@@ -1,5 +1,5 @@
 -- Records as they answer, are taken over and are made, by numbers and by names.
-use Rattle.std.proofs.Common.{◌≡◌, ℕ, zero, suc, ◌-◌, ℤ, true, List, [], ◌∷◌, ◌++◌, length, map, refl, sym, ◌∙◌, ap, subst}
+use Rattle.std.proofs.Common.{◌≡◌, ℕ, zero, suc, ◌-◌, ℤ, true, List, [], ◌∷◌, ◌++◌, length, map, refl, sym, ◌∙◌, ap, subst, arith}
 use Rattle.std.specs.Prelude.{nat_eq}
 use Rattle.meaning.specs.Tree.{Name}
 use Rattle.meaning.specs.Elision.{depth_limit}
@@ -20,7 +20,8 @@ use Rattle.positions.specs.Setting.{Setting, IsLinked, HasItsTables, HasItsRecor
 use Rattle.positions.specs.Layers.{PlainLayer}
 use Rattle.positions.specs.Tallies.{PlainOpened, PlainTally, touched_from, entries_from, record_by, is_own, closing_by, closing}
 use Rattle.positions.specs.Advance.{record_for}
-use Rattle.positions.specs.Stands.{IsNotes, IsOpened, AreOpened, IsTally}
+use Rattle.positions.specs.declared.start.Start.{Start}
+use Rattle.positions.specs.Stands.{IsKept, IsNotes, IsOpened, AreOpened, IsTally}
 use Rattle.positions.specs.Simulation.{HoldNow}
 use Rattle.record_theory.proofs.Same.{second_is}
 use Rattle.position_theory.proofs.Once.{touched_is, touched_named}
@@ -54,10 +55,15 @@ module _ (setting : Setting) where
 
   -- ---- an instance that is over becomes a record
 
-  module _ (linked : IsLinked setting) (records : HasItsRecords setting) (l : PlainLayer) (n : Notes) (v : ℤ) (h : IsNotes setting l n) where
-    pub made_is : (o : PlainOpened) (k : Opened) → IsOpened setting o k → holds_now setting.program setting.tables (definitions.record_by setting.program k n v) ≡ true
+  module _ (linked : IsLinked setting) (records : HasItsRecords setting) {st : Start} {lower : List PlainLayer} (l : PlainLayer) (n : Notes) (v : ℤ) (h : IsNotes setting st lower l n) where
+    -- a layer above others keeps what was read
+    kept_above : (ls : List PlainLayer) (k : ℕ) → suc k ≡ length ls → IsKept setting st ls l.keeps → l.keeps ≡ true
+    kept_above [] k e i = absurd (omega (arith, e))
+    kept_above (m ∷ ls) k e i = i
+
+    pub made_is : (o : PlainOpened) (k : Opened) → l.keeps ≡ true → IsOpened setting o k → holds_now setting.program setting.tables (definitions.record_by setting.program k n v) ≡ true
         → IsRecord setting.program.tree setting.names setting.kinds (definitions.record_by setting.program k n v) (record_by setting.program.revisions o l v)
-    made_is o k i now =
+    made_is o k keeps i now =
         let same_kinds : setting.kinds ≡ l.kinds = linked.kinds ∙ sym h.kinds in
         let current = second_is (every (agrees setting.tables) n.read) (every (is_current setting.program.revisions) (definitions.record_by setting.program k n v).revisions) now in
         record {
@@ -67,30 +73,30 @@ module _ (setting : Setting) where
           value = refl;
           contribution = h.worths ∙ sym (touched_is l.kinds l.worths h.each) ∙ ap (λ ks. filled (identities ks) (touched_from 0 l.kinds l.worths)) (sym same_kinds);
           named = subst (λ ks. NameReducersFrom 0 (length ks) (touched_from 0 l.kinds l.worths)) (sym same_kinds) (touched_named l.kinds l.worths);
-          reads = kept_reads_are setting l n h (h.keeps ∙ i.recorded);
+          reads = kept_reads_are setting l n h keeps;
           entered =
               subst (λ flags. SameMembers (entries_from 0 setting.program.revisions flags) (map (numbered_entry setting.program.tree) (definitions.record_by setting.program k n v).revisions)) (sym h.entered)
               (entries_are setting.program.tree setting.program.revisions records.in_order n.entered current);
           height = ap (λ d. suc d - (depth_limit - o.left)) (sym h.deepest) ∙ ap (λ d. suc n.deepest - (depth_limit - d)) i.left;
         }
 
-    closed_at : (ns : List Notes) (t : PlainTally) (u : Tally) (os : List PlainOpened) (ks : List Opened) → IsTally setting t u → AreOpened setting os ks
+    closed_at : (ns : List Notes) (t : PlainTally) (u : Tally) (os : List PlainOpened) (ks : List Opened) → length os ≡ length lower → IsTally setting t u → AreOpened setting os ks
         → HoldNow setting (closed_by setting.program ks (n ∷ ns) (leaving v) u)
         → IsTally setting (closing_by setting.program.revisions os l v t) (closed_by setting.program ks (n ∷ ns) (leaving v) u)
-    closed_at ns t u [] [] i a now = i
-    closed_at ns t u [] (k ∷ ks) i a now = absurd a
-    closed_at ns t u (o ∷ os) [] i a now = absurd a
-    closed_at ns t u (o ∷ os) (k ∷ ks) i a now = record {
+    closed_at ns t u [] [] long i a now = i
+    closed_at ns t u [] (k ∷ ks) long i a now = absurd a
+    closed_at ns t u (o ∷ os) [] long i a now = absurd a
+    closed_at ns t u (o ∷ os) (k ∷ ks) long i a now = record {
       opened = a.1;
       made =
           records_append u.made (definitions.record_by setting.program k n v ∷ []) t.made (record_by setting.program.revisions o l v ∷ []) i.made
-          (made_is o k a.0 (every_last (λ r. holds_now setting.program setting.tables r ≡ true) u.made (definitions.record_by setting.program k n v) now), tt);
+          (made_is o k (kept_above lower (length os) long h.keeps) a.0 (every_last (λ r. holds_now setting.program setting.tables r ≡ true) u.made (definitions.record_by setting.program k n v) now), tt);
       executed = i.executed;
       reused = i.reused;
       unrecorded = i.unrecorded;
     }
 
     -- the topmost layer becomes a record, which holds now
-    pub closed_tally : (ns : List Notes) (t : PlainTally) (u : Tally) → IsTally setting t u → HoldNow setting (closed_by setting.program u.opened (n ∷ ns) (leaving v) u)
+    pub closed_tally : (ns : List Notes) (t : PlainTally) (u : Tally) → length t.opened ≡ length lower → IsTally setting t u → HoldNow setting (closed_by setting.program u.opened (n ∷ ns) (leaving v) u)
         → IsTally setting (closing setting.program.revisions l v t) (closed_by setting.program u.opened (n ∷ ns) (leaving v) u)
-    closed_tally ns t u i now = closed_at ns t u t.opened u.opened i i.opened now
+    closed_tally ns t u long i now = closed_at ns t u t.opened u.opened long i i.opened now

@@ -13,6 +13,7 @@ use Rattle.positions.specs.declared.start.Start.{Start}
 use Rattle.positions.specs.declared.start.Start.TheVariants.{Root, Behind}
 use Rattle.positions.specs.Strands.{shorter, entry_by}
 use Rattle.positions.specs.Stands.{IsWithin, IsStart}
+use Rattle.positions.specs.Simulation.{IsBehind}
 
 -- a strand keeps its beginning where what the instance does next allows it
 pub start_moved : (st : Start) (ph ph' : Phase) (path path' : Place) (m : NamedStart)
@@ -21,6 +22,11 @@ start_moved Root ph ph' path path' root f h = tt
 start_moved Root ph ph' path path' (behind m j) f h = absurd h
 start_moved (Behind d k) ph ph' path path' root f h = absurd h
 start_moved (Behind d k) ph ph' path path' (behind m j) f h = (h.0 ∙ (f d h.2).0, h.1, (f d h.2).1)
+
+-- a strand that begins behind a child by name does so by numbers
+pub begins_behind : (st : Start) (ph : Phase) (path : Place) (m : Place) (j : ℕ) → IsStart st ph path (behind m j) → IsBehind st
+begins_behind Root ph path m j h = absurd h
+begins_behind (Behind d k) ph path m j h = tt
 
 same_number : (a : ℕ) → nat_eq a a ≡ true
 same_number a = eq-eqb a a refl

@@ -73,7 +73,7 @@ module _ (setting : Setting) (kit : Bool) (linked : IsLinked (by_own_names setti
 
   module _ (rest : Body) (bs : List Body) (begins : IsStart st Running path m) (hu : AreParents (by_own_names setting) path below (unflagged_under under)) (counts : IsTally (by_own_names setting) pt t)
       (follows : linked_body (columned_of setting.tables) setting.program.tree rest ≡ acts_at (by_own_names setting) a.procedure (length a.outer) (next_of q)) (hb : AreBodies (by_own_names setting) a.procedure a.outer bs)
-      (ph : NamedPhase) (n : ℕ) (l : PlainLayer) (ls : List Notes) (hl : AreNotes (by_own_names setting) (l ∷ lower) ls) where
+      (ph : NamedPhase) (n : ℕ) (l : PlainLayer) (ls : List Notes) (hl : AreNotes (by_own_names setting) st (l ∷ lower) ls) where
     abbrev site : Site
     site = record { procedure = (procedure_at (by_own_names setting) a.procedure).called; statement = n }
 
@@ -81,18 +81,18 @@ module _ (setting : Setting) (kit : Bool) (linked : IsLinked (by_own_names setti
     abbrev ByStep : PlainStrand → List Notes → Step → Type 0
     ByStep s ks st' = Comes (by_own_names setting) s (strand_at m ks fr ph under) t st'
 
-    unnoted : (k : PlainLayer) (ks : List Notes) → AreNotes (by_own_names setting) (k ∷ lower) ks → AreNotes (by_own_names setting) (k ∷ lower) (noted_top ks [])
-    unnoted k ks h = subst (AreNotes (by_own_names setting) (k ∷ lower)) (sym (top_none ks)) h
+    unnoted : (k : PlainLayer) (ks : List Notes) → AreNotes (by_own_names setting) st (k ∷ lower) ks → AreNotes (by_own_names setting) st (k ∷ lower) (noted_top ks [])
+    unnoted k ks h = subst (AreNotes (by_own_names setting) st (k ∷ lower)) (sym (top_none ks)) h
 
-    goes_on : (k : PlainLayer) (ks : List Notes) → AreNotes (by_own_names setting) (k ∷ lower) ks
+    goes_on : (k : PlainLayer) (ks : List Notes) → AreNotes (by_own_names setting) st (k ∷ lower) ks
         → StandsFor (by_own_names setting) (moved_on q (plain_at k)) (strand_at m ks fr (running (blocks (rest ∷ bs))) (unflagged_under under)) t
     goes_on k ks h = record { start = begins; layers = h; tally = counts; now = record { todo = blocks (rest ∷ bs); left = (follows, hb); phase = refl; frame = refl; under = hu } }
 
-    moves_on : (k : PlainLayer) (ks : List Notes) → AreNotes (by_own_names setting) (k ∷ lower) ks
+    moves_on : (k : PlainLayer) (ks : List Notes) → AreNotes (by_own_names setting) st (k ∷ lower) ks
         → ByStep (moved_on q (plain_at k)) ks (moved noting [] fr (running (blocks (rest ∷ bs))) under)
     moves_on k ks h = goes_on k (noted_top ks []) (unnoted k ks h)
 
-    binds : (x : ℕ) (v : ℤ) (k : PlainLayer) (ks : List Notes) → AreNotes (by_own_names setting) (k ∷ lower) ks
+    binds : (x : ℕ) (v : ℤ) (k : PlainLayer) (ks : List Notes) → AreNotes (by_own_names setting) st (k ∷ lower) ks
         → ByStep (binding q x v (plain_at k)) ks (moved noting [] (with_env fr (slice_set fr.env x (has v))) (running (blocks (rest ∷ bs))) under)
     binds x v k ks h = record {
       start = begins;
@@ -101,7 +101,7 @@ module _ (setting : Setting) (kit : Bool) (linked : IsLinked (by_own_names setti
       now = record { todo = blocks (rest ∷ bs); left = (follows, hb); phase = refl; frame = ap (with_env fr) (sym (set_meant a.slots x (Has v))); under = hu };
     }
 
-    gives : (v : ℤ) (k : PlainLayer) (ks : List Notes) → AreNotes (by_own_names setting) (k ∷ lower) ks
+    gives : (v : ℤ) (k : PlainLayer) (ks : List Notes) → AreNotes (by_own_names setting) st (k ∷ lower) ks
         → ByStep (giving v (plain_at k)) ks (moved noting [] fr (returning v) under)
     gives v k ks h = record {
       start = start_moved st Running (Returning v) path path m (λ d w. (refl, w)) begins;
@@ -112,7 +112,7 @@ module _ (setting : Setting) (kit : Bool) (linked : IsLinked (by_own_names setti
 
     -- an expression, and then the rest
     valued : (e : Expression) (e' : Term) → linked_term (columned_of setting.tables) e' ≡ expression e → (next : ℤ → PlainStrand → PlainStrand) (s : ℤ → Step) → ((v : ℤ) → IsTaken (s v))
-        → ((v : ℤ) (k : PlainLayer) (ks : List Notes) → AreNotes (by_own_names setting) (k ∷ lower) ks → ByStep (next v (plain_at k)) ks (s v))
+        → ((v : ℤ) (k : PlainLayer) (ks : List Notes) → AreNotes (by_own_names setting) st (k ∷ lower) ks → ByStep (next v (plain_at k)) ks (s v))
         → ByStep (evaluated n (value_at setting.tables a.slots (expression e)) next (plain_at l)) ls (on_value fr under site (value setting.tables (env_of a.slots) e') s)
     valued e e' h next s quiet goes =
         subst (λ out. ByStep (evaluated n out next (plain_at l)) ls (on_value fr under site (value setting.tables (env_of a.slots) e') s))
@@ -120,7 +120,7 @@ module _ (setting : Setting) (kit : Bool) (linked : IsLinked (by_own_names setti
         (evaluated_is (by_own_names setting) m fr ph under t (plain_at l) n site refl begins counts (value setting.tables (env_of a.slots) e') next s ls (value_reads setting.tables (env_of a.slots) e') hl quiet goes)
 
     all_valued : (es : List Expression) (es' : List Term) → map (linked_term (columned_of setting.tables)) es' ≡ map expression es → (next : List ℤ → PlainStrand → PlainStrand) (s : List ℤ → Step) → ((vs : List ℤ) → IsTaken (s vs))
-        → ((vs : List ℤ) (k : PlainLayer) (ks : List Notes) → AreNotes (by_own_names setting) (k ∷ lower) ks → ByStep (next vs (plain_at k)) ks (s vs))
+        → ((vs : List ℤ) (k : PlainLayer) (ks : List Notes) → AreNotes (by_own_names setting) st (k ∷ lower) ks → ByStep (next vs (plain_at k)) ks (s vs))
         → ByStep (evaluated n (values_at setting.tables a.slots (map expression es)) next (plain_at l)) ls (on_value fr under site (values setting.tables (env_of a.slots) es') s)
     all_valued es es' h next s quiet goes =
         subst (λ out. ByStep (evaluated n out next (plain_at l)) ls (on_value fr under site (values setting.tables (env_of a.slots) es') s))
@@ -169,7 +169,7 @@ module _ (setting : Setting) (kit : Bool) (linked : IsLinked (by_own_names setti
     read_is : (x r : ℕ) (r' : Name) → reducer_number (reducers setting.program.tree) r' ≡ r
         → ByStep (performed (by_own_names setting) kit q n (o.Read x r) (plain_at l)) ls (deed_step setting.program.tree setting.tables (lookup_of setting) kit (bottom ls) fr site (read x r') (rest ∷ bs) under)
     read_is x r r' e =
-        let low = bottom_is (by_own_names setting) l lower ls hl in
+        let low = bottom_is (by_own_names setting) st l lower ls hl in
         let each : length (lowest l lower).worths ≡ length (reducers setting.program.tree) = low.each ∙ ap length low.kinds ∙ length-map (reducers setting.program.tree) (λ r. r.kind) in
         subst (λ v. ByStep (performed (by_own_names setting) kit q n (o.Read x r) (plain_at l)) ls (moved noting [] (with_env fr (slice_set fr.env x (has v))) (running (blocks (rest ∷ bs))) under))
         (sym (ap (reading (bottom ls)) (found_reducer r r' e) ∙ reading_by (bottom ls) (lowest l lower).worths r (slice_get (reducers setting.program.tree) r) low.worths each refl))
@@ -188,14 +188,14 @@ module _ (setting : Setting) (kit : Bool) (linked : IsLinked (by_own_names setti
     abbrev after_update : Unit {0} → Step
     after_update u = moved noting [] fr (running (blocks (rest ∷ bs))) under
 
-    named_is : (r : ℕ) (kind : Kind) (vs : List ℤ) (b : Bool) (k : PlainLayer) (ks : List Notes) → AreNotes (by_own_names setting) (k ∷ lower) ks
+    named_is : (r : ℕ) (kind : Kind) (vs : List ℤ) (b : Bool) (k : PlainLayer) (ks : List Notes) → AreNotes (by_own_names setting) st (k ∷ lower) ks
         → ByStep (if_named b n q r kind vs (plain_at k)) ks (on_value fr under site (naming r kind vs b) after_update)
     named_is r kind vs false k ks h = faulted_is (by_own_names setting) m fr ph under t (plain_at k) n site refl begins counts BadElement k ks h
     named_is r kind vs true k ks h =
         goes_on (layers.updating r kind vs k) (noted_top ks (Updates r kind (element_of kind vs) ∷ []))
-        (top_noted (by_own_names setting) k (layers.updating r kind vs k) lower ks (Updates r kind (element_of kind vs) ∷ []) (λ i. notes_updated (by_own_names setting) k i r kind vs) h)
+        (top_noted (by_own_names setting) st k (layers.updating r kind vs k) lower ks (Updates r kind (element_of kind vs) ∷ []) (λ i. notes_updated (by_own_names setting) k i r kind vs) h)
 
-    combined_is : (r : ℕ) (red : Option Red) (vs : List ℤ) (k : PlainLayer) (ks : List Notes) → AreNotes (by_own_names setting) (k ∷ lower) ks
+    combined_is : (r : ℕ) (red : Option Red) (vs : List ℤ) (k : PlainLayer) (ks : List Notes) → AreNotes (by_own_names setting) st (k ∷ lower) ks
         → ByStep (combining (kind_in red) n q r vs (plain_at k)) ks (on_value fr under site (updating (with_number r red) vs) after_update)
     combined_is r None vs k ks h = moves_on k ks h
     combined_is r (Some red) vs k ks h = named_is r red.kind vs (names_element red.kind vs) k ks h
@@ -222,7 +222,7 @@ module _ (setting : Setting) (kit : Bool) (linked : IsLinked (by_own_names setti
     -- ---- blocks and loops
 
     chosen : (b c : ℕ) (x y : Body) (h : linked_body (columned_of setting.tables) setting.program.tree x ≡ acts_at (by_own_names setting) a.procedure (suc (length a.outer)) (first_of b)) (i : linked_body (columned_of setting.tables) setting.program.tree y ≡ acts_at (by_own_names setting) a.procedure (suc (length a.outer)) (first_of c)) (z : Bool)
-        (k : PlainLayer) (ks : List Notes) → AreNotes (by_own_names setting) (k ∷ lower) ks
+        (k : PlainLayer) (ks : List Notes) → AreNotes (by_own_names setting) st (k ∷ lower) ks
         → ByStep (plain.with_top (inside (if z then c else b) q top) (plain_at k)) ks (moved noting [] fr (running (blocks (cond z y x ∷ (rest ∷ bs)))) under)
     chosen b c x y h i true k ks j =
         record { start = begins; layers = unnoted k ks j; tally = counts; now = record { todo = blocks (y ∷ (rest ∷ bs)); left = (i, (follows, hb)); phase = refl; frame = refl; under = hu } }
@@ -237,7 +237,7 @@ module _ (setting : Setting) (kit : Bool) (linked : IsLinked (by_own_names setti
         valued e e' h (choosing q b c) (λ v. moved noting [] fr (running (blocks (cond (int_eq v (pos 0)) y x ∷ (rest ∷ bs)))) under) (λ v. tt) (λ v. chosen b c x y hx hy (int_eq v (pos 0)))
 
     bounded : (e f : Expression) (e' f' : Term) → linked_term (columned_of setting.tables) e' ≡ expression e → linked_term (columned_of setting.tables) f' ≡ expression f → (next : ℤ × ℕ → PlainStrand → PlainStrand) (s : ℤ × ℕ → Step) → ((v : ℤ × ℕ) → IsTaken (s v))
-        → ((v : ℤ × ℕ) (k : PlainLayer) (ks : List Notes) → AreNotes (by_own_names setting) (k ∷ lower) ks → ByStep (next v (plain_at k)) ks (s v))
+        → ((v : ℤ × ℕ) (k : PlainLayer) (ks : List Notes) → AreNotes (by_own_names setting) st (k ∷ lower) ks → ByStep (next v (plain_at k)) ks (s v))
         → ByStep (evaluated n (bounds_at setting.tables a.slots (expression e) (expression f)) next (plain_at l)) ls (on_value fr under site (bounds setting.tables (env_of a.slots) e' f') s)
     bounded e f e' f' h i next s quiet goes =
         subst (λ out. ByStep (evaluated n out next (plain_at l)) ls (on_value fr under site (bounds setting.tables (env_of a.slots) e' f') s))
@@ -278,7 +278,7 @@ module _ (setting : Setting) (kit : Bool) (linked : IsLinked (by_own_names setti
     sync_by : (b : Bool) → StandsFor (by_own_names setting) (plain_at l) (strand_at m ls fr ph under) t
         → ByStep (if b then plain_at l else moved_on q (plain_at l)) ls (unless b (moved noting (Syncs path ∷ []) fr (running (blocks (rest ∷ bs))) under))
     sync_by true h = h
-    sync_by false h = goes_on l (noted_top ls (Syncs path ∷ [])) (subst (AreNotes (by_own_names setting) (l ∷ lower)) (sym (top_syncs ls)) hl)
+    sync_by false h = goes_on l (noted_top ls (Syncs path ∷ [])) (subst (AreNotes (by_own_names setting) st (l ∷ lower)) (sym (top_syncs ls)) hl)
 
     sync_is : StandsFor (by_own_names setting) (plain_at l) (strand_at m ls fr ph under) t
         → ByStep (performed (by_own_names setting) kit q n o.Sync (plain_at l)) ls (sync_step setting.program.tree setting.tables (lookup_of setting) kit (bottom ls) m fr (blocks (rest ∷ bs)) under)

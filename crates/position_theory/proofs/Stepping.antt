@@ -33,7 +33,7 @@ use Rattle.positions.specs.Setting.{Setting, IsLinked, HasItsTables, HasItsRecor
 use Rattle.positions.specs.Activations.{PlainActivation, at, bound, with_slot, next_of, first_of, outside_by, outside}
 use Rattle.positions.specs.Code.{blocks_at, instruction_inside, loop_in}
 use Rattle.positions.specs.Layers.{PlainLayer}
-use Rattle.positions.specs.Strands.{PlainStrand, shorter, entry_by}
+use Rattle.positions.specs.Strands.{PlainStrand, shorter, entry_by, IsLayeredAt}
 use Rattle.positions.specs.Tallies.{PlainTally, closing}
 use Rattle.positions.specs.Advance as plain
 use Rattle.positions.specs.Advance.{with_top, in_phase, giving, gone_by, gone, worked, started, started_by}
@@ -53,7 +53,7 @@ use Rattle.position_theory.proofs.Statements.{performed_is}
 
 module _ (setting : Setting) (kit : Bool) (linked : IsLinked (by_own_names setting)) (records : HasItsRecords (by_own_names setting))
     (m : NamedStart) (under : List Parent) (st : Start) (lower : List PlainLayer) (path : Place) (a : PlainActivation) (below : List PlainActivation)
-    (begins : IsStart st phase.Running path m) (here : AreParents (by_own_names setting) path below under) (hu : AreParents (by_own_names setting) path below (unflagged_under under)) (args : List ℤ) (pt : PlainTally) (t : Tally) (counts : IsTally (by_own_names setting) pt t) (l : PlainLayer) (ls : List Notes) (hl : AreNotes (by_own_names setting) (l ∷ lower) ls) where
+    (begins : IsStart st phase.Running path m) (here : AreParents (by_own_names setting) path below under) (hu : AreParents (by_own_names setting) path below (unflagged_under under)) (args : List ℤ) (pt : PlainTally) (t : Tally) (counts : IsTally (by_own_names setting) pt t) (l : PlainLayer) (ls : List Notes) (hl : AreNotes (by_own_names setting) st (l ∷ lower) ls) where
   abbrev plain_at : Work → PlainStrand
   plain_at w = record { start = st; layer = l; lower = lower; path = path; top = at w a; below = below; phase = phase.Running; arguments = args; tally = pt }
 
@@ -64,8 +64,8 @@ module _ (setting : Setting) (kit : Bool) (linked : IsLinked (by_own_names setti
   abbrev Works : PlainStrand → Work → Todo → Type 0
   Works s w todo = Comes (by_own_names setting) s (strand_at m ls (frame_in w) (running todo) under) t (todo_step setting.program.tree setting.tables (lookup_of setting) kit (bottom ls) m (frame_in w) todo under)
 
-  unnoted : AreNotes (by_own_names setting) (l ∷ lower) (noted_top ls [])
-  unnoted = subst (AreNotes (by_own_names setting) (l ∷ lower)) (sym (top_none ls)) hl
+  unnoted : AreNotes (by_own_names setting) st (l ∷ lower) (noted_top ls [])
+  unnoted = subst (AreNotes (by_own_names setting) st (l ∷ lower)) (sym (top_none ls)) hl
 
   -- the end of a block
   block_ends : (q : Position) (outs : List Position) (bs : List Body) → AreBodies (by_own_names setting) a.procedure outs bs → Works (with_top (outside_by outs (at (Block q) a)) (plain_at (Block q))) (Block q) (blocks (end ∷ bs))
@@ -200,7 +200,7 @@ module _ (setting : Setting) where
   parents_unflagged over (a ∷ below) (p ∷ under) h = (waits_unflagged over a p h.0, parents_unflagged (shorter over) below under h.1)
 
 module _ (setting : Setting) (kit : Bool) (linked : IsLinked (by_own_names setting)) (records : HasItsRecords (by_own_names setting))
-    (m : NamedStart) (under : List Parent) (st : Start) (lower : List PlainLayer) (path : Place) (a : PlainActivation) (l : PlainLayer) (ls : List Notes) (hl : AreNotes (by_own_names setting) (l ∷ lower) ls)
+    (m : NamedStart) (under : List Parent) (st : Start) (lower : List PlainLayer) (path : Place) (a : PlainActivation) (l : PlainLayer) (ls : List Notes) (hl : AreNotes (by_own_names setting) st (l ∷ lower) ls)
     (args : List ℤ) (pt : PlainTally) (t : Tally) (counts : IsTally (by_own_names setting) pt t) (below : List PlainActivation) (here : AreParents (by_own_names setting) path below under) where
   abbrev plain_in : Phase → PlainStrand
   plain_in ph = record { start = st; layer = l; lower = lower; path = path; top = a; below = below; phase = ph; arguments = args; tally = pt }
@@ -231,7 +231,7 @@ module _ (setting : Setting) (kit : Bool) (linked : IsLinked (by_own_names setti
       subst (λ s. ComesIn s (entering (half n job count i)) (stepped false (entering (half n job count i)))) (sym (started_half a.work n job count i h))
       (record {
         start = start_moved st phase.Entering phase.Running path path m (λ d w. (refl, omega arith)) begins;
-        layers = subst (AreNotes (by_own_names setting) (l ∷ lower)) (sym (top_begins ls path (depth_limit - a.left))) hl;
+        layers = subst (AreNotes (by_own_names setting) st (l ∷ lower)) (sym (top_begins ls path (depth_limit - a.left))) hl;
         tally = counts;
         now = record { todo = halves n job count i; left = h; phase = refl; frame = refl; under = hu };
       })
@@ -255,49 +255,49 @@ module _ (setting : Setting) (kit : Bool) (linked : IsLinked (by_own_names setti
   abbrev tally_by : Step → Tally
   tally_by st' = tallied setting.program ls (unflagged_step st') t
 
-  top_closes : (v : ℤ) (ks : List Notes) → AreNotes (by_own_names setting) (l ∷ lower) ks → HoldNow (by_own_names setting) (closed_by setting.program t.opened ks (leaving v) t)
+  top_closes : (v : ℤ) (ks : List Notes) → length pt.opened ≡ length lower → AreNotes (by_own_names setting) st (l ∷ lower) ks → HoldNow (by_own_names setting) (closed_by setting.program t.opened ks (leaving v) t)
       → IsTally (by_own_names setting) (closing setting.program.revisions l v pt) (closed_by setting.program t.opened ks (leaving v) t)
-  top_closes v [] h hold = absurd h
-  top_closes v (n ∷ ks) h hold = closed_tally (by_own_names setting) linked records l n v h.0 ks pt t counts hold
+  top_closes v [] long h hold = absurd h
+  top_closes v (n ∷ ks) long h hold = closed_tally (by_own_names setting) linked records l n v h.0 ks pt t long counts hold
 
-  closed_is : (v : ℤ) → IsStart st (phase.Leaving v) path m → HoldNow (by_own_names setting) (tally_by (leaving_step true v)) → ComesIn (plain.closed (by_own_names setting) v (plain_in (phase.Returning v))) (returning v) (leaving_step true v)
-  closed_is v begins hold = record {
+  closed_is : (v : ℤ) → length pt.opened ≡ length lower → IsStart st (phase.Leaving v) path m → HoldNow (by_own_names setting) (tally_by (leaving_step true v)) → ComesIn (plain.closed (by_own_names setting) v (plain_in (phase.Returning v))) (returning v) (leaving_step true v)
+  closed_is v long begins hold = record {
     start = begins;
-    layers = closed_layers (by_own_names setting) l lower (noted_top ls (Syncs path ∷ [])) (subst (AreNotes (by_own_names setting) (l ∷ lower)) (sym (top_syncs ls path)) hl);
-    tally = top_closes v (noted_top ls (Syncs path ∷ [])) (subst (AreNotes (by_own_names setting) (l ∷ lower)) (sym (top_syncs ls path)) hl) hold;
+    layers = closed_layers (by_own_names setting) st l lower (noted_top ls (Syncs path ∷ [])) (subst (AreNotes (by_own_names setting) st (l ∷ lower)) (sym (top_syncs ls path)) hl);
+    tally = top_closes v (noted_top ls (Syncs path ∷ [])) long (subst (AreNotes (by_own_names setting) st (l ∷ lower)) (sym (top_syncs ls path)) hl) hold;
     now = record { phase = refl; frame = refl; under = hu };
   }
 
   leaves_is : (v : ℤ) → IsStart st (phase.Leaving v) path m → ComesIn (plain_in (phase.Leaving v)) (returning v) (leaving_step false v)
   leaves_is v begins = record {
     start = begins;
-    layers = subst (AreNotes (by_own_names setting) (l ∷ lower)) (sym (top_syncs ls path)) hl;
+    layers = subst (AreNotes (by_own_names setting) st (l ∷ lower)) (sym (top_syncs ls path)) hl;
     tally = counts;
     now = record { phase = refl; frame = refl; under = hu };
   }
 
-  owned_or_not : (b : Bool) (v : ℤ) → IsStart st (phase.Leaving v) path m → HoldNow (by_own_names setting) (tally_by (leaving_step b v))
+  owned_or_not : (b : Bool) (v : ℤ) → length pt.opened ≡ length lower → IsStart st (phase.Leaving v) path m → HoldNow (by_own_names setting) (tally_by (leaving_step b v))
       → ComesIn (if b then plain.closed (by_own_names setting) v (plain_in (phase.Returning v)) else plain_in (phase.Leaving v)) (returning v) (leaving_step b v)
-  owned_or_not true v begins hold = closed_is v begins hold
-  owned_or_not false v begins hold = leaves_is v begins
+  owned_or_not true v long begins hold = closed_is v long begins hold
+  owned_or_not false v long begins hold = leaves_is v begins
 
-  returned_by : (b : Bool) (v : ℤ) → entry_by st path ≡ b → IsStart st (phase.Returning v) path m → HoldNow (by_own_names setting) (tally_by (unless b (leaving_step owns v)))
+  returned_by : (b : Bool) (v : ℤ) → length pt.opened ≡ length lower → entry_by st path ≡ b → IsStart st (phase.Returning v) path m → HoldNow (by_own_names setting) (tally_by (unless b (leaving_step owns v)))
       → ComesIn (if b then plain_in (phase.Returning v) else if owns then plain.closed (by_own_names setting) v (plain_in (phase.Returning v)) else plain_in (phase.Leaving v)) (returning v) (unless b (leaving_step owns v))
-  returned_by true v e begins hold = record { start = begins; layers = hl; tally = counts; now = record { phase = refl; frame = refl; under = here } }
-  returned_by false v e begins hold = owned_or_not owns v (start_left (by_own_names setting) st v path m e begins) hold
+  returned_by true v long e begins hold = record { start = begins; layers = hl; tally = counts; now = record { phase = refl; frame = refl; under = here } }
+  returned_by false v long e begins hold = owned_or_not owns v long (start_left (by_own_names setting) st v path m e begins) hold
 
-  synced_is : (v : ℤ) → IsStart st (phase.Returning v) path m → HoldNow (by_own_names setting) (tally_by (stepped owns (returning v)))
+  synced_is : (v : ℤ) → length pt.opened ≡ length lower → IsStart st (phase.Returning v) path m → HoldNow (by_own_names setting) (tally_by (stepped owns (returning v)))
       → ComesIn (plain.synced (by_own_names setting) v (plain_in (phase.Returning v))) (returning v) (stepped owns (returning v))
-  synced_is v begins hold =
+  synced_is v long begins hold =
       let entry : is_entry m path ≡ entry_by st path = entry_is st path m (start_moved st (phase.Returning v) phase.Running path path m (λ d w. (refl, w)) begins) in
       subst (λ b. HoldNow (by_own_names setting) (tally_by (unless b (leaving_step owns v))) → ComesIn (plain.synced (by_own_names setting) v (plain_in (phase.Returning v))) (returning v) (unless b (leaving_step owns v))) (sym entry)
       (λ hold'. subst (λ b. ComesIn (if entry_by st path then plain_in (phase.Returning v) else if b then plain.closed (by_own_names setting) v (plain_in (phase.Returning v)) else plain_in (phase.Leaving v)) (returning v) (unless (entry_by st path) (leaving_step owns v)))
       (sym (own_is (by_own_names setting) pt.opened t.opened path counts.opened))
-      (returned_by (entry_by st path) v refl begins hold')) hold
+      (returned_by (entry_by st path) v long refl begins hold')) hold
   -- ---- the parent of an instance that leaves goes on
 
 module _ (setting : Setting) (kit : Bool) (m : NamedStart) (st : Start) (lower : List PlainLayer) (path : Place) (a : PlainActivation)
-    (l : PlainLayer) (ls : List Notes) (hl : AreNotes (by_own_names setting) (l ∷ lower) ls) (args : List ℤ) (pt : PlainTally) (t : Tally) (counts : IsTally (by_own_names setting) pt t) (v : ℤ) (begins : IsStart st (phase.Leaving v) path m) where
+    (l : PlainLayer) (ls : List Notes) (hl : AreNotes (by_own_names setting) st (l ∷ lower) ls) (args : List ℤ) (pt : PlainTally) (t : Tally) (counts : IsTally (by_own_names setting) pt t) (v : ℤ) (begins : IsStart st (phase.Leaving v) path m) where
   abbrev leaves : List PlainActivation → PlainStrand
   leaves below = record { start = st; layer = l; lower = lower; path = path; top = a; below = below; phase = phase.Leaving v; arguments = args; tally = pt }
 
@@ -309,7 +309,7 @@ module _ (setting : Setting) (kit : Bool) (m : NamedStart) (st : Start) (lower :
   left_is (b ∷ below) [] h = absurd h
   left_is (b ∷ below) (p ∷ under) h = record {
     start = start_below (by_own_names setting) st v path m begins;
-    layers = subst (AreNotes (by_own_names setting) (l ∷ lower)) (sym (top_leaves ls path v)) hl;
+    layers = subst (AreNotes (by_own_names setting) st (l ∷ lower)) (sym (top_leaves ls path v)) hl;
     tally = counts;
     now = record {
       todo = p.todo;
@@ -326,7 +326,7 @@ pub rebuilt : (x : LayeredStrand) (fr : Frame) (ph : NamedPhase) → x.frame ≡
 rebuilt x fr ph e f = ap (λ g. strand_at x.start x.layers g x.phase x.under) e ∙ ap (λ p. strand_at x.start x.layers fr p x.under) f
 
 module _ (setting : Setting) (kit : Bool) (linked : IsLinked (by_own_names setting)) (records : HasItsRecords (by_own_names setting)) (s : PlainStrand) (x : LayeredStrand) (t : Tally)
-    (hl : AreNotes (by_own_names setting) (s.layer ∷ s.lower) x.layers) (counts : IsTally (by_own_names setting) s.tally t) where
+    (hl : AreNotes (by_own_names setting) s.start (s.layer ∷ s.lower) x.layers) (counts : IsTally (by_own_names setting) s.tally t) where
   abbrev in_place : Phase → List PlainActivation → PlainStrand
   in_place ph below = record { start = s.start; layer = s.layer; lower = s.lower; path = s.path; top = s.top; below = below; phase = ph; arguments = s.arguments; tally = s.tally }
 
@@ -340,9 +340,9 @@ module _ (setting : Setting) (kit : Bool) (linked : IsLinked (by_own_names setti
   abbrev ReachesFrom : Phase → List PlainActivation → LayeredStrand → Type 0
   ReachesFrom ph below y = Comes (by_own_names setting) (plain.advanced (by_own_names setting) kit (in_place ph below)) y t (step_of y)
 
-  -- only an instance that returns makes a record
+  -- only an instance that returns makes a record, of the layer that is above as many as are open
   abbrev pub HoldsAt : Phase → LayeredStrand → Type 0
-  HoldsAt (phase.Returning v) y = HoldNow (by_own_names setting) (tallied setting.program y.layers (unflagged_step (step_of y)) t)
+  HoldsAt (phase.Returning v) y = (length s.tally.opened ≡ length s.lower) × HoldNow (by_own_names setting) (tallied setting.program y.layers (unflagged_step (step_of y)) t)
   HoldsAt _ y = Unit {0}
 
   pub phase_is : (ph : Phase) (below : List PlainActivation) → IsStart s.start ph s.path x.start → StandsAt (by_own_names setting) ph below (in_place ph below) x → HoldsAt ph x → ReachesFrom ph below x
@@ -358,24 +358,24 @@ module _ (setting : Setting) (kit : Bool) (linked : IsLinked (by_own_names setti
       subst (λ ph. Comes (by_own_names setting) (in_place phase.AtSpawn (p ∷ below)) x t (step_in x ph)) (sym h.phase) (record { start = begins; layers = hl; tally = counts; now = h })
   phase_is (phase.Returning v) below begins h hold =
       subst (λ y. HoldsAt (phase.Returning v) y → ReachesFrom (phase.Returning v) below y) (sym (rebuilt x _ _ h.frame h.phase))
-      (synced_is setting kit linked records x.start x.under s.start s.lower s.path s.top s.layer x.layers hl s.arguments s.tally t counts below h.under v begins) hold
+      (λ hold'. synced_is setting kit linked records x.start x.under s.start s.lower s.path s.top s.layer x.layers hl s.arguments s.tally t counts below h.under v hold'.0 begins hold'.1) hold
   phase_is (phase.Leaving v) below begins h hold =
       subst (ReachesFrom (phase.Leaving v) below) (sym (rebuilt x _ _ h.frame h.phase))
       (left_is setting kit x.start s.start s.lower s.path s.top s.layer x.layers hl s.arguments s.tally t counts v begins below x.under h.under)
   phase_is (phase.Broken f) below begins h hold =
       subst (λ ph. Comes (by_own_names setting) (in_place (phase.Broken f) below) x t (step_in x ph)) (sym h) (record { start = begins; layers = hl; tally = counts; now = h })
 
-  holds_at : (ph : Phase) → HoldNow (by_own_names setting) (tallied setting.program x.layers (unflagged_step (step_of x)) t) → HoldsAt ph x
-  holds_at phase.Entering h = tt
-  holds_at phase.Running h = tt
-  holds_at phase.AtSpawn h = tt
-  holds_at (phase.Returning v) h = h
-  holds_at (phase.Leaving v) h = tt
-  holds_at (phase.Broken f) h = tt
+  holds_at : (ph : Phase) → IsLayeredAt ph s → HoldNow (by_own_names setting) (tallied setting.program x.layers (unflagged_step (step_of x)) t) → HoldsAt ph x
+  holds_at phase.Entering layered h = tt
+  holds_at phase.Running layered h = tt
+  holds_at phase.AtSpawn layered h = tt
+  holds_at (phase.Returning v) layered h = (layered, h)
+  holds_at (phase.Leaving v) layered h = tt
+  holds_at (phase.Broken f) layered h = tt
 
 own_small_step : (setting : Setting) → IsLinked (by_own_names setting) → HasItsRecords (by_own_names setting) → (kit : Bool) (s : PlainStrand) → IsSmallStep (by_own_names setting) kit s (plain.advanced (by_own_names setting) kit s)
-own_small_step setting linked records kit s x t h hold =
-    phase_is setting kit linked records s x t h.layers h.tally s.phase s.below h.start h.now (holds_at setting kit linked records s x t h.layers h.tally s.phase hold)
+own_small_step setting linked records kit s x t h layered hold =
+    phase_is setting kit linked records s x t h.layers h.tally s.phase s.below h.start h.now (holds_at setting kit linked records s x t h.layers h.tally s.phase layered hold)
 
 -- a small step, over tables of the names that the codes were linked by
 pub small_step_is : (setting : Setting) → HasItsTables setting → IsLinked setting → HasItsRecords setting → (kit : Bool) (s : PlainStrand) → IsSmallStep setting kit s (plain.advanced setting kit s)

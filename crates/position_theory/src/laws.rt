@@ -5,6 +5,7 @@ ghost use Rattle.linked_program.specs.Initials.{PlainInitial, AreUpdatesBy};
 ghost use Rattle.linked_program.specs.Linked.{main_number};
 ghost use Rattle.positions.specs.Setting.{Setting, IsLinked, HasItsTables, HasItsRecords};
 ghost use Rattle.positions.specs.Strands.{PlainStrand, PlainTask};
+ghost use Rattle.positions.specs.Nesting.{KeepsNesting};
 ghost use Rattle.positions.specs.Advance.{advanced, pause_of};
 ghost use Rattle.positions.specs.Moves.{inlined, detached, attached, resumed, first_strand, stolen, joined, lowest_alone, at_update};
 ghost use Rattle.positions.specs.Simulation.{IsSmallStep, KitsFollow, KeepsLayers, IsPause, IsStepTaken, IsFirst, IsInlined, IsDetached};
@@ -31,10 +32,13 @@ pub fn steps_are_the_definitions()
         → IsUpdateNext setting s (at_update setting.codes s) }
 {}
 
-/// Each small step keeps one layer more than there are open memo instances, as long as there is no fault.
+/// Each small step keeps one layer more than there are open memo instances, as long as there is no fault; and it keeps that all of
+/// these but one that has just been entered have other instances inside, so that some memo procedure enters others.
 pub fn steps_keep_layers()
     ensures layers { (setting : Setting) (kit : Bool) (s : PlainStrand)
         → KeepsLayers s (advanced setting kit s) }
+    ensures nesting { (setting : Setting) (kit : Bool) (s : PlainStrand)
+        → KeepsNesting setting.codes s (advanced setting kit s) }
 {}
 
 /// The strands that begin are those of the definitions: main's, for the initial values of the program, and that of a continuation

@@ -1,5 +1,5 @@
 -- What stands in the code at a place.
-use Rattle.std.specs.Prelude.{ℕ, nat_lt, Bool, List, [], Option, Some, None, if◌then◌else◌, slice_get, length}
+use Rattle.std.specs.Prelude.{ℕ, nat_lt, Bool, true, false, ◌&&◌, List, [], Option, Some, None, if◌then◌else◌, slice_get, length}
 use Rattle.std.specs.List.{list_any}
 use Rattle.linked_program.specs.declared.code.Expression.{Expression}
 use Rattle.linked_program.specs.declared.code.Operation.{Operation}
@@ -11,9 +11,18 @@ use Rattle.linked_program.specs.CodeView.{blocks_in, instruction_at}
 use Rattle.positions.specs.declared.work.Position.{Position}
 use Rattle.positions.specs.declared.work.Loop.{Loop}
 
--- whether a run may make records: some procedure's instances are recorded
-abbrev pub may_record : List Code → Bool
-may_record codes = list_any (λ c. c.memo) codes
+-- a statement that enters other instances
+abbrev pub enters_others : Operation → Bool
+enters_others (o.Enter x way f es) = true
+enters_others (o.Loop x low high grain f es) = true
+enters_others _ = false
+
+abbrev pub has_entering : Code → Bool
+has_entering c = list_any (λ b. list_any (λ i. enters_others i.operation) b.instructions.items) c.blocks.items
+
+-- whether a memo instance may have others inside: some procedure whose instances are recorded has such a statement
+abbrev pub may_nest : List Code → Bool
+may_nest codes = list_any (λ c. c.memo && has_entering c) codes
 
 -- the blocks of a procedure's code
 abbrev pub blocks_at : List Code → ℕ → List CodeBlock

@@ -71,8 +71,8 @@ either (x ∷ xs) (y ∷ ys) = (x || y) ∷ either xs ys
 abbrev pub multiplied : PlainLayer → PlainLayer → PlainLayer
 multiplied l r = record l {
   worths = operate_all l.kinds l.worths r.worths;
-  notes = l.notes ++ r.notes;
-  shared = l.shared ++ r.shared;
+  notes = kept_behind l.keeps l.notes r.notes;
+  shared = kept_behind l.keeps l.shared r.shared;
   entered = either l.entered r.entered;
   deepest = max l.deepest r.deepest;
 }
@@ -81,9 +81,9 @@ multiplied l r = record l {
 abbrev pub kept_reads : PlainLayer → List Note
 kept_reads l = once l.notes ++ l.shared
 
--- a layer, and behind it one that becomes a record: what that keeps was read is shared with it
+-- a layer, and behind it one that becomes a record: what that keeps was read is shared with it, where readings are kept
 abbrev pub covered : PlainLayer → PlainLayer → PlainLayer
-covered l r = record (multiplied l r) { notes = l.notes; shared = l.shared ++ kept_reads r }
+covered l r = record (multiplied l r) { notes = l.notes; shared = kept_behind l.keeps l.shared (kept_reads r) }
 
 -- the flags of these numbers are put up
 abbrev pub flagged : List Bool → List ℕ → List Bool
@@ -94,7 +94,7 @@ flagged flags (p ∷ ps) = flagged (slice_set flags p true) ps
 abbrev pub absorbing : PlainRecord → ℕ → PlainLayer → PlainLayer
 absorbing r depth l = record l {
   worths = operate_all l.kinds l.worths (filled (identities l.kinds) r.contribution);
-  shared = l.shared ++ r.reads;
+  shared = kept_behind l.keeps l.shared r.reads;
   entered = flagged l.entered (map (λ e. e.0) r.entered);
   deepest = max l.deepest (depth + r.height - 1);
 }

@@ -6,6 +6,7 @@ pub mod Values
 pub mod Tallies
 pub mod Identities
 pub mod Strands
+pub mod Nesting
 pub mod Advance
 pub mod Moves
 pub mod Stands

@@ -19,7 +19,7 @@ use Rattle.positions.specs.declared.phase.Fault.{Fault}
 use Rattle.positions.specs.declared.start.Start.{Start}
 use Rattle.positions.specs.declared.start.Start.TheVariants.{Root, Behind}
 use Rattle.positions.specs.Activations.{PlainActivation, bound, made, first_of}
-use Rattle.positions.specs.Code.{may_record}
+use Rattle.positions.specs.Code.{may_nest}
 use Rattle.positions.specs.Advance.{next_statement}
 use Rattle.positions.specs.Layers.{PlainLayer, blank, begun, lowest, multiplied}
 use Rattle.positions.specs.Tallies.{no_tally, tallies_joined}
@@ -63,7 +63,7 @@ resumed task s = resumed_by (returned_of s) task s
 abbrev pub first_strand : List Code → List Kind → List PlainInitial → ℕ → PlainStrand
 first_strand codes kinds initials main = record {
   start = Root;
-  layer = begun kinds initials (blank (may_record codes) kinds (length codes));
+  layer = begun kinds initials (blank false kinds (length codes));
   lower = [];
   path = [];
   top = made main (slots_for (slots_of codes main) []) (Block (first_of 0)) (depth_limit - 1);
@@ -92,7 +92,7 @@ stolen_with layer task = record {
 }
 
 abbrev pub stolen : List Code → List Kind → PlainTask → PlainStrand
-stolen codes kinds task = stolen_with (blank (may_record codes) kinds (length codes)) task
+stolen codes kinds task = stolen_with (blank (may_nest codes) kinds (length codes)) task
 
 -- ---- two strands become one
 

@@ -21,6 +21,7 @@ use Rattle.positions.specs.declared.start.Start.TheVariants.{Root, Behind}
 use Rattle.positions.specs.Setting.{Setting}
 use Rattle.positions.specs.Advance.{kits_then}
 use Rattle.positions.specs.Strands.{PlainStrand, PlainTask, IsLayered}
+use Rattle.positions.specs.Nesting.{NestAt}
 use Rattle.positions.specs.Stands.{StandsFor, StandsForTask}
 
 -- how the definitions name a point
@@ -36,6 +37,11 @@ named_pause paused.Faulted = Some faulted
 abbrev pub place_of : Start → List ℕ → List ℕ
 place_of Root path = []
 place_of (Behind depth child) path = child_of (take depth path) child
+
+-- a strand begins behind a child
+abbrev pub IsBehind : Start → Type 0
+IsBehind Root = ⊥
+IsBehind (Behind depth child) = Unit {0}
 
 -- a strand is not at a spawn
 abbrev pub IsNotAtSpawn : Phase → Type 0
@@ -81,7 +87,7 @@ module _ (setting : Setting) where
   -- what the second stands for is the small step of what the first stands for, where the records made by then hold now
   abbrev pub IsSmallStep : Bool → PlainStrand → PlainStrand → Type 0
   IsSmallStep kit s s' =
-      (x : LayeredStrand) (t : Tally) → StandsFor setting s x t → HoldNow (tally_after kit x t)
+      (x : LayeredStrand) (t : Tally) → StandsFor setting s x t → IsLayered s → HoldNow (tally_after kit x t)
       → StandsFor setting s' (advanced setting.program.tree x (small_step kit x t)) (tally_after kit x t)
 
   -- the layers that the step opens and closes take the kits that it takes by the definitions
@@ -135,10 +141,10 @@ module _ (setting : Setting) where
   abbrev pub IsStolen : PlainTask → PlainStrand → Type 0
   IsStolen task s' = (k : Continuation) → StandsForTask setting task k → StandsFor setting s' (stolen setting.program.tree k) no_tally
 
-  -- two neighbours as one strand, where they may be folded
+  -- two neighbours as one strand, where they may be folded; the left one's layers are those of instances with others inside
   abbrev pub IsJoined : PlainStrand → PlainStrand → PlainStrand → Type 0
   IsJoined l r s' =
-      (x y z : LayeredStrand) (t u : Tally) → IsNotAtSpawn r.phase → r.lower ≡ []
+      (x y z : LayeredStrand) (t u : Tally) → IsNotAtSpawn r.phase → r.lower ≡ [] → IsBehind r.start → NestAt setting.codes l.phase l → IsLayered l
       → StandsFor setting l x t → StandsFor setting r y u
       → joined_pair setting.program setting.tables setting.memory x x.phase y y.phase ≡ Some z
       → StandsFor setting s' z (tallies_joined t u)

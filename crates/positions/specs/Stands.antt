@@ -1,5 +1,6 @@
 -- What a strand of numbers stands for: a strand of the definitions, whose instances and procedures go by name.
-use Rattle.std.specs.Prelude.{◌≡◌, ℕ, zero, suc, ◌-◌, ◌<◌, ◌≤◌, ℤ, true, false, List, [], ◌∷◌, ◌++◌, map, length, replicate, take, Option, None, slice_get}
+use Rattle.std.specs.Prelude.{◌≡◌, ℕ, zero, suc, ◌-◌, ◌<◌, ◌≤◌, ℤ, Bool, true, false, List, [], ◌∷◌, ◌++◌, map}
+use Rattle.std.specs.Prelude.{length, replicate, take, Option, None, slice_get}
 use Rattle.meaning.specs.Tree.{Body, Proc, Tree}
 use Rattle.meaning.specs.Outcome.{Place, Fault as NamedFault}
 use Rattle.meaning.specs.Trail.{child_of}
@@ -29,7 +30,7 @@ use Rattle.positions.specs.declared.start.Start.{Start}
 use Rattle.positions.specs.declared.start.Start.TheVariants.{Root, Behind}
 use Rattle.positions.specs.Setting.{Setting}
 use Rattle.positions.specs.Activations.{PlainActivation, first_of}
-use Rattle.positions.specs.Code.{may_record, blocks_at, loop_at}
+use Rattle.positions.specs.Code.{may_nest, blocks_at, loop_at}
 use Rattle.positions.specs.Layers.{PlainLayer, flagged}
 use Rattle.record_theory.specs.Named.{number_of, SameMembers, AreRecords}
 use Rattle.positions.specs.Tallies.{PlainOpened, PlainTally}
@@ -71,9 +72,19 @@ module _ (setting : Setting) where
 
   -- ---- layers
 
-  -- a layer has noted as much, by numbers; what was read where the program may make records
-  pub record IsNotes (l : PlainLayer) (n : Notes) : Type 0 where
-    pub keeps : l.keeps ≡ may_record setting.codes
+  -- whether the lowest layer of a strand that begins there keeps what was read: around a thief's beginning a memo instance may be open
+  abbrev pub base_keeps : Start → Bool
+  base_keeps Root = false
+  base_keeps (Behind depth child) = may_nest setting.codes
+
+  -- each layer above others is a memo instance's, and keeps it
+  abbrev pub IsKept : Start → List PlainLayer → Bool → Type 0
+  IsKept st [] keeps = keeps ≡ base_keeps st
+  IsKept st (m ∷ lower) keeps = keeps ≡ true
+
+  -- a layer above those of a strand that begins there has noted as much, by numbers; what was read where it keeps that
+  pub record IsNotes (st : Start) (lower : List PlainLayer) (l : PlainLayer) (n : Notes) : Type 0 where
+    pub keeps : IsKept st lower l.keeps
     pub kinds : l.kinds ≡ map (λ r. r.kind) (reducers setting.program.tree)
     pub worths : n.worth ≡ l.worths
     pub each : length l.worths ≡ length l.kinds
@@ -82,10 +93,10 @@ module _ (setting : Setting) where
         (map (procedure_number (procedures setting.program.tree)) n.entered)
     pub deepest : n.deepest ≡ l.deepest
 
-  abbrev pub AreNotes : List PlainLayer → List Notes → Type 0
-  AreNotes [] [] = Unit {0}
-  AreNotes (l ∷ ls) (n ∷ ns) = IsNotes l n × AreNotes ls ns
-  AreNotes _ _ = ⊥
+  abbrev pub AreNotes : Start → List PlainLayer → List Notes → Type 0
+  AreNotes st [] [] = Unit {0}
+  AreNotes st (l ∷ ls) (n ∷ ns) = IsNotes st ls l n × AreNotes st ls ns
+  AreNotes st _ _ = ⊥
 
   -- ---- what was counted and recorded
 
@@ -96,7 +107,6 @@ module _ (setting : Setting) where
     pub arguments : o.arguments ≡ k.args
     pub left : o.left ≡ k.left
     pub depth : o.depth ≡ length k.instance
-    pub recorded : may_record setting.codes ≡ true
 
   abbrev pub AreOpened : List PlainOpened → List Opened → Type 0
   AreOpened [] [] = Unit {0}
@@ -251,7 +261,7 @@ module _ (setting : Setting) where
   -- the strand of numbers stands for that strand of the definitions, whose instances have no flags, with that tally
   pub record StandsFor (s : PlainStrand) (x : LayeredStrand) (t : Tally) : Type 0 where
     pub start : IsStart s.start s.phase s.path x.start
-    pub layers : AreNotes (s.layer ∷ s.lower) x.layers
+    pub layers : AreNotes s.start (s.layer ∷ s.lower) x.layers
     pub tally : IsTally s.tally t
     pub now : StandsAt s.phase s.below s x
 
