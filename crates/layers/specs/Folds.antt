@@ -1,8 +1,9 @@
 -- What goes behind a layer: another one, or what a record has.
-use Rattle.std.specs.Prelude.{◌≡◌, ℕ, Bool, false, List, Option, Some, None, slice_get}
+use Rattle.std.specs.Prelude.{◌≡◌, ℕ, Bool, false, List, [], Option, Some, None, slice_get}
 use Rattle.monoid_laws.specs.declared.Kind.{Kind}
 use Rattle.monoid_laws.specs.Worth.{Worth}
 use Rattle.monoid_laws.specs.Kinds.{operate_all, identities}
+use Rattle.evaluation.specs.declared.note.Note.{Note}
 use Rattle.positions.specs.Layers.{PlainLayer}
 use Rattle.record_theory.specs.Named.{HaveValues, filled}
 use Rattle.record_theory.specs.Record.{PlainRecord}
@@ -10,6 +11,11 @@ use Rattle.record_theory.specs.Record.{PlainRecord}
 -- the values of all reducers, with those of some behind them
 abbrev pub combined_with : List (ℕ × Worth) → List Kind → List Worth → List Worth
 combined_with touched kinds worths = operate_all kinds worths (filled (identities kinds) touched)
+
+-- readings that may be left out
+abbrev pub reads_in : Option (List Note) → List Note
+reads_in None = []
+reads_in (Some ns) = ns
 
 -- nothing but the reducers' values has changed
 abbrev pub IsSameButWorths : PlainLayer → PlainLayer → Type 0

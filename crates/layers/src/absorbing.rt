@@ -1,11 +1,12 @@
 // A layer takes over what a record has, or what a layer has that becomes a record.
-ghost use Rattle.std.specs.Prelude.{◌≡◌, ◌<◌, ◌++◌, OnErr, OnOk, All, map, slice_set, vec_len, vec_capacity, true};
+ghost use Rattle.std.specs.Prelude.{◌≡◌, ◌<◌, ◌++◌, List, IfOk, OnErr, OnOk, All, map, slice_set, vec_len, vec_capacity, true};
 ghost use Rattle.monoid_laws.specs.Kinds.{IsMonoid};
+ghost use Rattle.evaluation.specs.declared.note.Note.{Note};
 ghost use Rattle.record_theory.specs.Record.{touched};
 ghost use Rattle.record_theory.specs.Named.{AreValuesFrom};
 ghost use Rattle.instance_records.specs.Readings.{all_of};
-ghost use Rattle.positions.specs.Layers.{absorbing, covered, flagged, kept_reads};
-ghost use Rattle.layers.specs.Folds.{HasSameProduct, IsSameButWorths, combined_with};
+ghost use Rattle.positions.specs.Layers.{absorbing, covered, flagged, kept_behind, kept_reads};
+ghost use Rattle.layers.specs.Folds.{HasSameProduct, IsSameButWorths, combined_with, reads_in};
 
 use crate::joining::flag_all;
 use crate::layer::Layer;
@@ -18,8 +19,8 @@ use std::alloc::{AllocError, Global};
 use view_pool::View;
 
 impl<V: View> Layer<V> {
-    /// Puts behind it what a record has of an instance at that depth. Where memory is refused, or the depth is past its limit,
-    /// some of the record's values are in and the others are not, and nothing else has changed.
+    /// Puts behind it what a record has of an instance at that depth, its readings where those are kept. Where memory is refused, or
+    /// the depth is past its limit, some of the record's values are in and the others are not, and nothing else has changed.
     pub(crate) fn absorb(
         &mut self,
         alloc: Global,
@@ -35,16 +36,16 @@ impl<V: View> Layer<V> {
             return Err(AllocError);
         };
         self.shared.reserve(1)?;
-        let reads = record.reads().share()?;
+        let reads = reads_kept(self.keeps, record.reads())?;
         absorb_values(&mut self.hypermap, alloc, record.contribution())?;
-        push_shared(&mut self.shared, reads);
+        push_kept(&mut self.shared, reads);
         flag_entered(&mut self.entered, record.entered());
         self.deepest = self.deepest.max(levels.saturating_sub(1));
         Ok(())
     }
 
-    /// Puts a layer that becomes a record behind this, which shares the readings that its record keeps, and leaves its views at
-    /// the identities. Where memory is refused, some reducers have moved to this one and the others have not, and nothing else has
+    /// Puts a layer that becomes a record behind this, which shares the readings that its record keeps, where it keeps any, and leaves
+    /// its views at the identities. Where memory is refused, some reducers have moved to this one and the others have not, and nothing else has
     /// changed.
     pub(crate) fn cover(&mut self, right: &mut Layer<V>, kept: &Readings) -> Result<(), AllocError>
         requires kinds { self.old.kinds ≡ right.old.kinds }
@@ -57,9 +58,9 @@ impl<V: View> Layer<V> {
         ensures product { OnErr result (HasSameProduct self.old right.old self.new right.new) }
     {
         self.shared.reserve(1)?;
-        let reads = kept.share()?;
+        let reads = reads_kept(self.keeps, kept)?;
         self.hypermap.fold(&mut right.hypermap)?;
-        push_shared(&mut self.shared, reads);
+        push_kept(&mut self.shared, reads);
         flag_all(&mut self.entered, &right.entered);
         self.deepest = self.deepest.max(right.deepest);
         Ok(())
@@ -83,6 +84,28 @@ fn absorb_values<V: View>(
         hypermap.absorb_one(alloc, entry.0, &entry.1)?;
     }
     Ok(())
+}
+
+/// Those readings for a layer that keeps readings; none for one that doesn't.
+#[inline(always)]
+fn reads_kept(keeps: bool, reads: &Readings) -> Result<Option<Readings>, AllocError>
+    ensures kept { IfOk result (λ kept. (ns : List Note) → ns ++ reads_in kept ≡ kept_behind keeps ns reads.now) }
+{
+    if !keeps {
+        return Ok(None);
+    }
+    Ok(Some(reads.share()?))
+}
+
+/// Puts readings, if there are any, behind those that a layer shares, for which there is room.
+#[inline(always)]
+fn push_kept(shared: &mut Vec<Readings>, reads: Option<Readings>)
+    requires room { vec_len shared.old < vec_capacity shared.old }
+    ensures pushed { all_of shared.new.items ≡ all_of shared.old.items ++ reads_in reads }
+{
+    if let Some(reads) = reads {
+        push_shared(shared, reads);
+    }
 }
 
 /// Puts readings behind those that a layer shares, for which there is room.

@@ -23,6 +23,12 @@ impl<V: View> Layer<V> {
         ensures product { OnErr result (operate_all self.old.kinds self.new.worths right.new.worths
             ≡ operate_all self.old.kinds self.old.worths right.old.worths) }
     {
+        if !self.keeps {
+            self.hypermap.fold(&mut right.hypermap)?;
+            flag_all(&mut self.entered, &right.entered);
+            self.deepest = self.deepest.max(right.deepest);
+            return Ok(());
+        }
         self.shared.reserve(right.shared.len())?;
         let before = self.notes.len();
         self.notes.add_all(&right.notes)?;

@@ -1,10 +1,11 @@
 // Layers of most leaves: two reducers were used, two cells were read, and one procedure was entered. Their record is made in one go, each part
 // where it will lie, and no part goes through another result.
-ghost use Rattle.std.specs.Prelude.{true, ◌≡◌, ◌∷◌, [], ◌&&◌, IfSome, OnErr, OnOk, All, length, map, slice_get};
+ghost use Rattle.std.specs.Prelude.{true, ◌≡◌, ◌∷◌, [], ◌&&◌, ◌<◌, IfSome, OnErr, OnOk, All, length, map, slice_get, vec_len, vec_capacity};
 ghost use Rattle.monoid_laws.specs.Kinds.{IsMonoid, meaning};
 ghost use Rattle.hypermaps.specs.Layer.{IsAt};
 ghost use Rattle.evaluation.specs.Short.{note_of};
-ghost use Rattle.positions.specs.Layers.{covered, kept_reads};
+ghost use Rattle.instance_records.specs.Readings.{all_of};
+ghost use Rattle.positions.specs.Layers.{covered, kept_behind, kept_reads};
 ghost use Rattle.positions.specs.Tallies.{touched_from, entries_from};
 ghost use Rattle.layers.specs.Folds.{HasSameProduct, IsSameButWorths};
 ghost use Rattle.layers.specs.Recordings.{recorded, entry_of};
@@ -15,6 +16,7 @@ use crate::layer::Layer;
 use crate::recording::{Opened, are_of_two_columns, only_up, two_reads};
 use evaluation::reading::Reading;
 use hypermaps::Hypermap;
+use instance_records::readings::Readings;
 use instance_records::record::Record;
 use instance_records::short_list::ShortList;
 use linked_program::checked::Checked;
@@ -77,10 +79,23 @@ impl<V: View> Layer<V> {
     {
         self.shared.reserve(1)?;
         self.hypermap.fold(&mut right.hypermap)?;
-        push_shared(&mut self.shared, two_reads(right.notes.readings()));
+        push_two(self.keeps, &mut self.shared, right.notes.readings());
         flag_all(&mut self.entered, &right.entered);
         self.deepest = self.deepest.max(right.deepest);
         Ok(())
+    }
+}
+
+/// Puts two readings behind those that a layer shares, for which there is room, if it keeps any.
+#[inline(always)]
+fn push_two(keeps: bool, shared: &mut Vec<Readings>, found: &[Reading])
+    requires room { vec_len shared.old < vec_capacity shared.old }
+    requires two { length found.now ≡ 2 }
+    ensures pushed { all_of shared.new.items
+        ≡ kept_behind keeps (all_of shared.old.items) (map note_of found.now) }
+{
+    if keeps {
+        push_shared(shared, two_reads(found));
     }
 }
 
