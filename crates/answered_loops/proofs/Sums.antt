@@ -6,11 +6,12 @@ use Rattle.std.proofs.lemmas.List.{append-nil, map-append}
 use Rattle.meaning.specs.Every.{every}
 use Rattle.monoid_laws.specs.declared.Kind.{Kind}
 use Rattle.monoid_laws.specs.Kinds.{AreWorths}
+use Rattle.evaluation.specs.declared.note.Note.{Note}
 use Rattle.record_theory.specs.Record.{PlainRecord}
 use Rattle.record_theory.specs.Named.{SameMembers}
 use Rattle.record_theory.specs.Sums.{IsSumOf, highest, contributed}
 use Rattle.record_theory.proofs.Members.{every_member}
-use Rattle.positions.specs.Layers.{PlainLayer, absorbing, flagged}
+use Rattle.positions.specs.Layers.{PlainLayer, kept_behind, absorbing, flagged}
 use Rattle.answered_loops.specs.Answered.{absorbed}
 
 -- ---- flags
@@ -97,21 +98,29 @@ deepest_is d r (q ∷ rs) m = deepest_is d q rs (max m (d + r.height - 1)) ∙ m
 
 -- ---- layers
 
+kept_none : (b : Bool) (ns : List Note) → kept_behind b ns [] ≡ ns
+kept_none true ns = append-nil ns
+kept_none false ns = refl
+
+kept_more : (b : Bool) (ns ms rs : List Note) → kept_behind b (kept_behind b ns ms) rs ≡ kept_behind b ns (ms ++ rs)
+kept_more true ns ms rs = append_assoc ns ms rs
+kept_more false ns ms rs = refl
+
 -- what a layer is behind records, part by part
 absorbed_is : (d : ℕ) (rs : List PlainRecord) (l : PlainLayer) → absorbed d rs l ≡ record l {
   worths = contributed l.kinds l.worths rs;
-  shared = l.shared ++ flat_map (λ r. r.reads) rs;
+  shared = kept_behind l.keeps l.shared (flat_map (λ r. r.reads) rs);
   entered = flagged l.entered (map (λ e. e.0) (flat_map (λ r. r.entered) rs));
   deepest = deepest_behind d rs l.deepest;
 }
-absorbed_is d [] l = ap (λ ns. record l { shared = ns }) (sym (append-nil l.shared))
+absorbed_is d [] l = ap (λ ns. record l { shared = ns }) (sym (kept_none l.keeps l.shared))
 absorbed_is d (r ∷ rs) l =
     let worths = contributed l.kinds l.worths (r ∷ rs) in
     let deepest = deepest_behind d (r ∷ rs) l.deepest in
     let flags = flagged (flagged l.entered (map (λ e. e.0) r.entered)) (map (λ e. e.0) (flat_map (λ q. q.entered) rs)) in
     absorbed_is d rs (absorbing r d l)
-    ∙ ap (λ ns. record l { worths = worths; shared = ns; entered = flags; deepest = deepest }) (append_assoc l.shared r.reads (flat_map (λ q. q.reads) rs))
-    ∙ ap (λ bs. record l { worths = worths; shared = l.shared ++ flat_map (λ q. q.reads) (r ∷ rs); entered = bs; deepest = deepest })
+    ∙ ap (λ ns. record l { worths = worths; shared = ns; entered = flags; deepest = deepest }) (kept_more l.keeps l.shared r.reads (flat_map (λ q. q.reads) rs))
+    ∙ ap (λ bs. record l { worths = worths; shared = kept_behind l.keeps l.shared (flat_map (λ q. q.reads) (r ∷ rs)); entered = bs; deepest = deepest })
     (sym (ap (flagged l.entered) (map-append (λ e. e.0) r.entered (flat_map (λ q. q.entered) rs)) ∙ flagged_append l.entered (map (λ e. e.0) r.entered) (map (λ e. e.0) (flat_map (λ q. q.entered) rs))))
 
 not_none : (kinds : List Kind) (s : PlainRecord) → IsSumOf kinds [] s → ⊥
@@ -126,10 +135,10 @@ absorbing_sum d (r ∷ rs) s l are sum =
     let flags = flagged l.entered (map (λ e. e.0) s.entered) in
     let deepest = max l.deepest (d + s.height - 1) in
     let worths = contributed l.kinds l.worths (r ∷ rs) in
-    let shared = l.shared ++ flat_map (λ q. q.reads) (r ∷ rs) in
+    let shared = kept_behind l.keeps l.shared (flat_map (λ q. q.reads) (r ∷ rs)) in
     let behind = flagged l.entered (map (λ e. e.0) (flat_map (λ q. q.entered) (r ∷ rs))) in
-    ap (λ ws. record l { worths = ws; shared = l.shared ++ s.reads; entered = flags; deepest = deepest }) (sum.worths l.worths are)
-    ∙ ap (λ ns. record l { worths = worths; shared = l.shared ++ ns; entered = flags; deepest = deepest }) sum.reads
+    ap (λ ws. record l { worths = ws; shared = kept_behind l.keeps l.shared s.reads; entered = flags; deepest = deepest }) (sum.worths l.worths are)
+    ∙ ap (λ ns. record l { worths = worths; shared = kept_behind l.keeps l.shared ns; entered = flags; deepest = deepest }) sum.reads
     ∙ ap (λ bs. record l { worths = worths; shared = shared; entered = bs; deepest = deepest }) (flagged_same l.entered s.entered (flat_map (λ q. q.entered) (r ∷ rs)) sum.entered)
     ∙ ap (λ m. record l { worths = worths; shared = shared; entered = behind; deepest = m }) (ap (λ h. max l.deepest (d + h - 1)) sum.height ∙ sym (deepest_is d r rs l.deepest))
     ∙ sym (absorbed_is d (r ∷ rs) l)
