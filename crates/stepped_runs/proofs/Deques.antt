@@ -14,14 +14,17 @@ use Rattle.meaning.specs.Schedules as schedules
 use Rattle.trail_theory.specs.Unflagged.{unflagged_under, unflagged_continuation}
 use Rattle.run_theory.specs.RightRuns.{front, Links, PiecesFit}
 use Rattle.run_theory.specs.UnflaggedRuns.{unflagged_piece}
+use Rattle.linked_program.specs.declared.code.Code.{Code}
 use Rattle.positions.specs.Setting.{Setting, IsLinked}
 use Rattle.positions.specs.declared.phase.Phase.{Phase}
 use Rattle.positions.specs.declared.phase.Phase.TheVariants as phase
 use Rattle.positions.specs.Activations.{PlainActivation}
 use Rattle.positions.specs.Strands.{PlainStrand, PlainTask, shorter, IsLayeredAt, IsLayered}
+use Rattle.positions.specs.Nesting.{AreNested, NestAt}
 use Rattle.positions.specs.Moves.{returned_at, returned_of, resumed_by}
 use Rattle.positions.specs.Stands.{AreParents, StandsAt, StandsForTask}
 use Rattle.position_theory.proofs.Moves.{resumed_is, stolen_is}
+use Rattle.position_theory.proofs.Nested.{nest_any}
 use Rattle.stepped_runs.specs.Pieces.{PlainPiece, place_of, is_held_by, popped_of, popped_by, popped, oldest, robbed, stolen_of, stolen_from}
 use Rattle.stepped_runs.specs.Stands.{StandForTasks, StandsForPiece}
 use Rattle.stepped_runs.proofs.Agreeing.{Each, held_any, piece_place, Agrees}
@@ -53,6 +56,10 @@ resumed_layered : (o : Option ℤ) (task : PlainTask) (s : PlainStrand) → IsLa
 resumed_layered None task s h l = h
 resumed_layered (Some v) task s h l = l
 
+resumed_nests : (codes : List Code) (o : Option ℤ) (task : PlainTask) (s : PlainStrand) → NestAt codes s.phase s → AreNested codes s.tally.opened → NestAt codes (resumed_by o task s).phase (resumed_by o task s)
+resumed_nests codes None task s h n = h
+resumed_nests codes (Some v) task s h n = nest_any codes phase.Running (resumed_by (Some v) task s) n
+
 no_child : (m : Place) (k : ℕ) → [] ≡ m ++ k ∷ [] → ⊥
 no_child m k e = let c : 0 ≡ length m + 1 = ap length e ∙ length-append m (k ∷ []) in omega arith
 
@@ -71,14 +78,15 @@ module _ (setting : Setting) where
 
   module _ (kits kits' : ℕ) (same : kits' ≡ kits) (p : PlainPiece) (x : Piece) (w : ℕ) (held : is_held_by w p ≡ true) (h : StandsForPiece setting p x) where
     abbrev AsManyLayers : Type 0
-    AsManyLayers = length p.strand.tally.opened ≡ length p.strand.lower
+    AsManyLayers = (length p.strand.tally.opened ≡ length p.strand.lower) × AreNested setting.codes p.strand.tally.opened
 
     resumes : AsManyLayers → (v : ℤ) (task : PlainTask) (tasks : List PlainTask) (k : Continuation) (ks : List Continuation) → p.strand.path ≡ task.place → StandsForTask setting task k → StandForTasks setting tasks ks → x.strand.phase ≡ leaving v → x.strand.under ≡ []
         → Agrees setting (popped_of (task ∷ tasks) kits p) (schedules.popped_at setting.program setting.tables setting.memory kits' x (leaving v) [] (k ∷ ks))
     resumes as_many v task tasks k ks at task_is tasks_are ph under = record {
       pieces = record {
         strand = resumed_is setting task p.strand x.strand x.tally k v at h.strand task_is ph under;
-        layered = resumed_layered (returned_of p.strand) task p.strand h.layered as_many;
+        layered = resumed_layered (returned_of p.strand) task p.strand h.layered as_many.0;
+        nests = resumed_nests setting.codes (returned_of p.strand) task p.strand h.nests as_many.1;
         tasks = tasks_are;
         state = h.state;
         laid = held_any w p.state _ _ held;
@@ -108,22 +116,22 @@ module _ (setting : Setting) where
     parents_stay v a below [] i = absurd i
     parents_stay v a below (q ∷ under) i = tt
 
-    popped_where : (ph : Phase) (below : List PlainActivation) → IsLayeredAt ph p.strand → StandsAt setting ph below p.strand x.strand → Linked x → Pops x.strand.phase x.strand.under ph below
-    popped_where (phase.Leaving v) [] as_many i l =
+    popped_where : (ph : Phase) (below : List PlainActivation) → IsLayeredAt ph p.strand → NestAt setting.codes ph p.strand → StandsAt setting ph below p.strand x.strand → Linked x → Pops x.strand.phase x.strand.under ph below
+    popped_where (phase.Leaving v) [] as_many n i l =
         let u = no_parents p.strand.path x.strand.under i.under in
         subst (λ nph. Pops nph x.strand.under (phase.Leaving v) []) (sym i.phase)
         (subst (λ under. Pops (leaving v) under (phase.Leaving v) []) (sym u)
-        (popped_leaving as_many v p.strand.path p.deque x.deque refl refl refl h.tasks i.phase u (ap (λ fr. fr.instance) i.frame) l))
-    popped_where (phase.Leaving v) (a ∷ below) as_many i l = subst (λ nph. Pops nph x.strand.under (phase.Leaving v) (a ∷ below)) (sym i.phase) (parents_stay v a below x.strand.under i.under)
-    popped_where phase.AtSpawn [] as_many i l = absurd i
-    popped_where phase.AtSpawn (a ∷ below) as_many i l = subst (λ nph. Pops nph x.strand.under phase.AtSpawn (a ∷ below)) (sym i.phase) tt
-    popped_where phase.Entering below as_many i l = subst (λ nph. Pops nph x.strand.under phase.Entering below) (sym i.phase) tt
-    popped_where phase.Running below as_many i l = subst (λ nph. Pops nph x.strand.under phase.Running below) (sym i.phase) tt
-    popped_where (phase.Returning v) below as_many i l = subst (λ nph. Pops nph x.strand.under (phase.Returning v) below) (sym i.phase) tt
-    popped_where (phase.Broken f) below as_many i l = subst (λ nph. Pops nph x.strand.under (phase.Broken f) below) (sym i) tt
+        (popped_leaving (as_many, n) v p.strand.path p.deque x.deque refl refl refl h.tasks i.phase u (ap (λ fr. fr.instance) i.frame) l))
+    popped_where (phase.Leaving v) (a ∷ below) as_many n i l = subst (λ nph. Pops nph x.strand.under (phase.Leaving v) (a ∷ below)) (sym i.phase) (parents_stay v a below x.strand.under i.under)
+    popped_where phase.AtSpawn [] as_many n i l = absurd i
+    popped_where phase.AtSpawn (a ∷ below) as_many n i l = subst (λ nph. Pops nph x.strand.under phase.AtSpawn (a ∷ below)) (sym i.phase) tt
+    popped_where phase.Entering below as_many n i l = subst (λ nph. Pops nph x.strand.under phase.Entering below) (sym i.phase) tt
+    popped_where phase.Running below as_many n i l = subst (λ nph. Pops nph x.strand.under phase.Running below) (sym i.phase) tt
+    popped_where (phase.Returning v) below as_many n i l = subst (λ nph. Pops nph x.strand.under (phase.Returning v) below) (sym i.phase) tt
+    popped_where (phase.Broken f) below as_many n i l = subst (λ nph. Pops nph x.strand.under (phase.Broken f) below) (sym i) tt
 
     pub popped_agrees : Linked x → Agrees setting (popped kits p) (schedules.popped setting.program setting.tables setting.memory kits' x)
-    popped_agrees l = popped_where p.strand.phase p.strand.below h.layered h.strand.now l
+    popped_agrees l = popped_where p.strand.phase p.strand.below h.layered h.nests h.strand.now l
 
   -- ---- steal
 
@@ -138,8 +146,8 @@ module _ (setting : Setting) where
         → Agrees setting (robbed setting thief kits p (oldest us k ks)) (schedules.robbed_of setting.program setting.tables setting.memory thief kits x cs (c ∷ ds))
     robs kits us cs k c [] [] a b r = record {
       pieces = inl (
-        record { strand = h.strand; layered = h.layered; tasks = a; state = h.state; laid = h.laid },
-        record { strand = stolen_is setting linked k c b; layered = refl; tasks = tt; state = refl; laid = tt },
+        record { strand = h.strand; layered = h.layered; nests = h.nests; tasks = a; state = h.state; laid = h.laid },
+        record { strand = stolen_is setting linked k c b; layered = refl; nests = tt; tasks = tt; state = refl; laid = tt },
       );
       kits = refl;
       noted = ap (λ v. strands.Split v (place_of_continuation c) thief ∷ []) (piece_place setting p x h) ∙ ap (λ n. strands.Split (place_of p) n thief ∷ []) (task_place k c b);

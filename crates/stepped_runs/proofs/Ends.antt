@@ -19,6 +19,7 @@ use Rattle.positions.specs.declared.phase.Phase.{Phase}
 use Rattle.positions.specs.declared.phase.Phase.TheVariants as phase
 use Rattle.positions.specs.Activations.{PlainActivation}
 use Rattle.positions.specs.Layers.{PlainLayer}
+use Rattle.positions.specs.declared.start.Start.{Start}
 use Rattle.positions.specs.Stands.{AreNotes, StandsAt}
 use Rattle.stepped_runs.specs.Pieces.{PlainPiece, place_of}
 use Rattle.stepped_runs.specs.Runs.{PlainRun, line_of}
@@ -32,17 +33,17 @@ use Rattle.stepped_runs.proofs.Layered.{layered_there}
 module _ (setting : Setting) where
   -- ---- the answer
 
-  one_note : (l : PlainLayer) (ls : List PlainLayer) (ns : List Notes) → ls ≡ [] → AreNotes setting (l ∷ ls) ns → (n : Notes) × (ns ≡ n ∷ []) × (n.worth ≡ l.worths)
-  one_note l [] [] e h = absurd h
-  one_note l [] (n ∷ []) e h = (n, refl, h.0.worths)
-  one_note l [] (n ∷ k ∷ ns) e h = absurd h.1
-  one_note l (m ∷ ls) ns e h = absurd cc
+  one_note : (st : Start) (l : PlainLayer) (ls : List PlainLayer) (ns : List Notes) → ls ≡ [] → AreNotes setting st (l ∷ ls) ns → (n : Notes) × (ns ≡ n ∷ []) × (n.worth ≡ l.worths)
+  one_note st l [] [] e h = absurd h
+  one_note st l [] (n ∷ []) e h = (n, refl, h.0.worths)
+  one_note st l [] (n ∷ k ∷ ns) e h = absurd h.1
+  one_note st l (m ∷ ls) ns e h = absurd cc
 
-  module _ (p : PlainPiece) (x : Piece) (notes : AreNotes setting (p.strand.layer ∷ p.strand.lower) x.strand.layers) where
+  module _ (p : PlainPiece) (x : Piece) (notes : AreNotes setting p.strand.start (p.strand.layer ∷ p.strand.lower) x.strand.layers) where
     answer_there : (st : State) (ph : Phase) (below : List PlainActivation) → IsLaidAs st ph p.strand → HasOneLayerAs st p.strand.lower → StandsAt setting ph below p.strand x.strand
         → answer_by st x.strand.phase x.strand.layers ≡ answer_at setting st ph p.strand.layer.worths
     answer_there strands.Finished (phase.Leaving v) below l o i =
-        let n = one_note p.strand.layer p.strand.lower x.strand.layers o notes in
+        let n = one_note p.strand.start p.strand.layer p.strand.lower x.strand.layers o notes in
         ap (λ q. answer_by strands.Finished q x.strand.layers) i.phase ∙ ap (answer_by strands.Finished (leaving v)) n.1 ∙ ap (λ ws. Some (elision.Finished v ws)) n.2
     answer_there strands.Faulted (phase.Broken f) below l o i = ap (λ q. answer_by strands.Faulted q x.strand.layers) i
     answer_there (Held w) ph below l o i = refl

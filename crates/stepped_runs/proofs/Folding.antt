@@ -5,13 +5,15 @@ use Rattle.monoid_laws.specs.Worth.{Worth}
 use Rattle.monoid_laws.specs.Kinds.{operate_all}
 use Rattle.meaning.specs.Tree.{Tree}
 use Rattle.meaning.specs.Outcome.{Place}
-use Rattle.meaning.specs.SmallStep.{Phase as NamedPhase, entering, running, spawning, returning, leaving, broken, same_name}
+use Rattle.meaning.specs.SmallStep.{Start as NamedStart, root, behind, Phase as NamedPhase, entering, running, spawning, returning, leaving, broken, same_name}
 use Rattle.meaning.specs.LayeredStrand.{LayeredStrand}
 use Rattle.meaning.specs.Strands.{State, Held, Ended, Stalled, BookStep, Fold, done, waits}
 use Rattle.meaning.specs.Strands as strands
 use Rattle.meaning.specs.Tallies.{tallies_joined}
 use Rattle.meaning.specs.Schedules.{Piece, RunState, joined_pair}
 use Rattle.meaning.specs.Schedules as schedules
+use Rattle.run_theory.specs.RightRuns.{Begins}
+use Rattle.linked_program.specs.declared.code.Code.{Code}
 use Rattle.positions.specs.Setting.{Setting}
 use Rattle.positions.specs.declared.phase.Phase.{Phase}
 use Rattle.positions.specs.declared.phase.Phase.TheVariants as phase
@@ -21,10 +23,12 @@ use Rattle.positions.specs.Activations.{PlainActivation}
 use Rattle.positions.specs.Strands.{PlainStrand, IsLayeredAt, IsLayered}
 use Rattle.positions.specs.Tallies as tallies
 use Rattle.positions.specs.Layers.{multiplied}
+use Rattle.positions.specs.Nesting.{AreNested, NestAt}
 use Rattle.positions.specs.Moves.{settled_by, joined, joined_at, joined_after, joined_ended}
-use Rattle.positions.specs.Stands.{StandsAt}
-use Rattle.positions.specs.Simulation.{IsNotAtSpawn}
+use Rattle.positions.specs.Stands.{IsStart, StandsAt}
+use Rattle.positions.specs.Simulation.{IsBehind, IsNotAtSpawn}
 use Rattle.position_theory.proofs.Joins.{joined_is}
+use Rattle.position_theory.proofs.Nested.{nest_any}
 use Rattle.numbered_runs.specs.declared.refusal.Refusal.TheVariants.{NotThere}
 use Rattle.stepped_runs.specs.Pieces.{PlainPiece, place_of, may_join_at, may_fold, folded}
 use Rattle.stepped_runs.specs.Runs.{folded_if, folded_at}
@@ -70,6 +74,22 @@ joined_layered (phase.Returning u) l r h k = k
 joined_layered (phase.Leaving u) l r h k = after_layered r.phase l r u h
 joined_layered (phase.Broken f) l r h k = tt
 
+after_nests : (codes : List Code) (ph : Phase) (l r : PlainStrand) (v : ℤ) → AreNested codes l.tally.opened → NestAt codes (joined_after ph l v r).phase (joined_after ph l v r)
+after_nests codes phase.Entering l r v h = nest_any codes _ (joined_ended l v r) h
+after_nests codes phase.Running l r v h = nest_any codes _ (joined_ended l v r) h
+after_nests codes phase.AtSpawn l r v h = nest_any codes _ (joined_ended l v r) h
+after_nests codes (phase.Returning u) l r v h = nest_any codes _ (joined_ended l v r) h
+after_nests codes (phase.Leaving u) l r v h = nest_any codes _ (joined_ended l v r) h
+after_nests codes (phase.Broken f) l r v h = tt
+
+joined_nests : (codes : List Code) (ph : Phase) (l r : PlainStrand) → NestAt codes ph l → NestAt codes l.phase l → NestAt codes (joined_at ph l r).phase (joined_at ph l r)
+joined_nests codes phase.Entering l r h k = k
+joined_nests codes phase.Running l r h k = k
+joined_nests codes phase.AtSpawn l r h k = k
+joined_nests codes (phase.Returning u) l r h k = k
+joined_nests codes (phase.Leaving u) l r h k = after_nests codes r.phase l r u h
+joined_nests codes (phase.Broken f) l r h k = tt
+
 left_true : (a b : Bool) → a && b ≡ true → a ≡ true
 left_true true b e = refl
 left_true false b e = absurd cc
@@ -77,6 +97,12 @@ left_true false b e = absurd cc
 if_true : {A : Type 0} (b : Bool) (x y : A) → cond b (Some x) None ≡ Some y → b ≡ true
 if_true true x y e = refl
 if_true false x y e = absurd cc
+
+-- all but the first piece's strands begin behind a child
+begins_later : (st : Start) (ph : Phase) (path : Place) (m : NamedStart) → IsStart st ph path m → Begins false m → IsBehind st
+begins_later Root ph path root h b = absurd b
+begins_later Root ph path (behind m j) h b = absurd h
+begins_later (Behind d k) ph path m h b = tt
 
 module _ (setting : Setting) where
   abbrev t : Tree
@@ -120,21 +146,23 @@ module _ (setting : Setting) where
       pub whole : Piece
       pub is : schedules.folded setting.program setting.tables setting.memory w x y ≡ Some whole
       pub one_layer : length y.strand.layers ≡ 1
+      pub later : Begins false y.strand.start
 
     -- what the definitions' fold gives is stood for
     record Folds (l r : PlainPiece) (p : Piece) : Type 0 where
       pub may : may_join_at l.strand.phase l r ≡ true
       pub one : StandsForPiece setting (folded w l r) p
 
-    folds_exact : (l r : PlainPiece) (x y p : Piece) → StandsForPiece setting l x → StandsForPiece setting r y → waits r.state ≡ true → length y.strand.layers ≡ 1 → schedules.folded setting.program setting.tables setting.memory w x y ≡ Some p → Folds l r p
-    folds_exact l r x y p hl hr wt one e =
+    folds_exact : (l r : PlainPiece) (x y p : Piece) → StandsForPiece setting l x → StandsForPiece setting r y → waits r.state ≡ true → length y.strand.layers ≡ 1 → Begins false y.strand.start → schedules.folded setting.program setting.tables setting.memory w x y ≡ Some p → Folds l r p
+    folds_exact l r x y p hl hr wt one later e =
         let f = from_folded x y p (schedules.may_fold setting.program setting.tables setting.memory x.state y.state) (pair_of x.strand x.strand.phase y.strand y.strand.phase) e in
         record {
           may = joins_by l r x y f.0 l.strand.phase l.strand.below hl.strand.now (piece_place setting r y hr) f.1;
           one = subst (StandsForPiece setting (folded w l r)) f.2 (record {
             strand = joined_is setting l.strand r.strand x.strand y.strand f.0 x.tally y.tally (waiting_point r.state r.strand.phase r.strand wt hr.laid)
-                (none_lower setting r.strand.layer r.strand.lower y.strand.layers hr.strand.layers one) hl.strand hr.strand f.1;
+                (none_lower setting r.strand.start r.strand.layer r.strand.lower y.strand.layers hr.strand.layers one) (begins_later r.strand.start r.strand.phase r.strand.path y.strand.start hr.strand.start later) hl.nests hl.layered hl.strand hr.strand f.1;
             layered = joined_layered l.strand.phase l.strand r.strand hl.layered hl.layered;
+            nests = joined_nests setting.codes l.strand.phase l.strand r.strand hl.nests hl.nests;
             tasks = tt;
             state = refl;
             laid = tt;
@@ -182,9 +210,9 @@ module _ (setting : Setting) where
     at_same (phase.Returning u) l r a b us vs e h k = absurd h
     at_same (phase.Broken f) l r a b us vs e h k = absurd h
 
-    folds_pair : (l r : PlainPiece) (x y p : Piece) → StandFolding setting l r x y → length y.strand.layers ≡ 1 → schedules.folded setting.program setting.tables setting.memory w x y ≡ Some p → Folds l r p
-    folds_pair l r x y p h one e =
-        let f = folds_exact (valued h.to_left l) (valued h.to_right r) x y p h.left h.right (ap waits h.stalled) one e in
+    folds_pair : (l r : PlainPiece) (x y p : Piece) → StandFolding setting l r x y → length y.strand.layers ≡ 1 → Begins false y.strand.start → schedules.folded setting.program setting.tables setting.memory w x y ≡ Some p → Folds l r p
+    folds_pair l r x y p h one later e =
+        let f = folds_exact (valued h.to_left l) (valued h.to_right r) x y p h.left h.right (ap waits h.stalled) one later e in
         let same : joined (with_worths h.to_left l.strand) (with_worths h.to_right r.strand) ≡ joined l.strand r.strand =
         at_same l.strand.phase l.strand r.strand _ _ h.to_left h.to_right h.product (subst (λ st. IsLaidAs st l.strand.phase (with_worths h.to_left l.strand)) h.ended h.left.laid)
         (subst (λ st. IsLaidAs st r.strand.phase (with_worths h.to_right r.strand)) h.stalled h.right.laid) in
@@ -253,7 +281,7 @@ module _ (setting : Setting) where
             let both = both_are (done l.state) (waits r.state) e in
             let k = waiting_first setting r later y xs both.1 hr in
             let j = joins us xs x y a (ap done hl.state ∙ both.0) (ap waits k.0.state ∙ both.1) in
-            fold_taken l r x y j.whole before later us xs (piece_place setting l x hl) (piece_place setting r y k.0) both.0 both.1 hb k.1 j.is (folds_exact l r x y j.whole hl k.0 both.1 j.one_layer j.is)
+            fold_taken l r x y j.whole before later us xs (piece_place setting l x hl) (piece_place setting r y k.0) both.0 both.1 hb k.1 j.is (folds_exact l r x y j.whole hl k.0 both.1 j.one_layer j.later j.is)
 
         pub folded_agrees : (before ps : List PlainPiece) (us xs : List Piece) → StandForPieces setting before us → StandForPieces setting ps xs → all ≡ us ++ xs
             → RunAgrees setting (folded_at w q kits before ps history) (schedules.folded_at setting.program setting.tables setting.memory w q kits' us xs history')
@@ -270,7 +298,7 @@ module _ (setting : Setting) where
         folded_agrees before (l ∷ r ∷ ps) us (x ∷ y ∷ xs) hb (inr h) a =
             either_agrees setting (same_name (place_of r) q) (same_name (schedules.place_of y) q) _ _ _ _ (ap (λ n. same_name n q) (piece_place setting (valued h.0.to_right r) y h.0.right))
             (λ b. let j = joins us xs x y a (ap done (h.0.left.state ∙ h.0.ended)) (ap waits (h.0.right.state ∙ h.0.stalled)) in
-            fold_taken l r x y j.whole before ps us xs (piece_place setting (valued h.0.to_left l) x h.0.left) (piece_place setting (valued h.0.to_right r) y h.0.right) (ap done h.0.ended) (ap waits h.0.stalled) hb h.1 j.is (folds_pair l r x y j.whole h.0 j.one_layer j.is))
+            fold_taken l r x y j.whole before ps us xs (piece_place setting (valued h.0.to_left l) x h.0.left) (piece_place setting (valued h.0.to_right r) y h.0.right) (ap done h.0.ended) (ap waits h.0.stalled) hb h.1 j.is (folds_pair l r x y j.whole h.0 j.one_layer j.later j.is))
             (past ps xs h.1 a (λ e. folded_agrees ((before ++ l ∷ []) ++ r ∷ []) ps ((us ++ x ∷ []) ++ y ∷ []) xs
             (subst (λ bs. StandForPieces setting bs ((us ++ x ∷ []) ++ y ∷ [])) (sym (append_assoc before (l ∷ []) (r ∷ [])))
             (subst (λ zs. StandForPieces setting (before ++ l ∷ r ∷ []) zs) (sym (append_assoc us (x ∷ []) (y ∷ [])))

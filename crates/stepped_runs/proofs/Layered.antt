@@ -24,6 +24,7 @@ use Rattle.positions.specs.declared.phase.Phase.{Phase}
 use Rattle.positions.specs.declared.phase.Phase.TheVariants as phase
 use Rattle.positions.specs.Activations.{PlainActivation}
 use Rattle.positions.specs.Layers.{PlainLayer}
+use Rattle.positions.specs.declared.start.Start.{Start}
 use Rattle.positions.specs.Stands.{AreNotes, StandsAt}
 use Rattle.stepped_runs.specs.Pieces.{PlainPiece}
 use Rattle.stepped_runs.specs.Runs.{PlainRun}
@@ -52,15 +53,15 @@ each_all P (p ∷ ps) h = All-cons P p ps h.0 (each_all P ps h.1)
 module _ (setting : Setting) where
   -- ---- as many by number as by name
 
-  pub notes_long : (l : PlainLayer) (lower : List PlainLayer) (ls : List Notes) → AreNotes setting (l ∷ lower) ls → length ls ≡ suc (length lower)
-  notes_long l lower [] h = absurd h
-  notes_long l [] (n ∷ []) h = refl
-  notes_long l [] (n ∷ m ∷ ns) h = absurd h.1
-  notes_long l (m ∷ lower) (n ∷ ns) h = ap suc (notes_long m lower ns h.1)
+  pub notes_long : (st : Start) (l : PlainLayer) (lower : List PlainLayer) (ls : List Notes) → AreNotes setting st (l ∷ lower) ls → length ls ≡ suc (length lower)
+  notes_long st l lower [] h = absurd h
+  notes_long st l [] (n ∷ []) h = refl
+  notes_long st l [] (n ∷ m ∷ ns) h = absurd h.1
+  notes_long st l (m ∷ lower) (n ∷ ns) h = ap suc (notes_long st m lower ns h.1)
 
-  pub none_lower : (l : PlainLayer) (lower : List PlainLayer) (ls : List Notes) → AreNotes setting (l ∷ lower) ls → length ls ≡ 1 → lower ≡ []
-  none_lower l [] ls h e = refl
-  none_lower l (m ∷ lower) ls h e = let n = notes_long l (m ∷ lower) ls h in absurd cc
+  pub none_lower : (st : Start) (l : PlainLayer) (lower : List PlainLayer) (ls : List Notes) → AreNotes setting st (l ∷ lower) ls → length ls ≡ 1 → lower ≡ []
+  none_lower st l [] ls h e = refl
+  none_lower st l (m ∷ lower) ls h e = let n = notes_long st l (m ∷ lower) ls h in absurd cc
 
   -- ---- one piece
 
@@ -73,7 +74,7 @@ module _ (setting : Setting) where
 
   module _ (p : PlainPiece) (x : Piece) (h : StandsForPiece setting p (unflagged_piece x)) where
     one_by : length x.strand.layers ≡ 1 → p.strand.lower ≡ []
-    one_by e = none_lower p.strand.layer p.strand.lower x.strand.layers h.strand.layers e
+    one_by e = none_lower p.strand.start p.strand.layer p.strand.lower x.strand.layers h.strand.layers e
 
     finished_main : (st : State) → IsLaid st x.strand x.deque → st ≡ strands.Finished → x.strand.frame.instance ≡ []
     finished_main strands.Finished k e = k.main

@@ -20,6 +20,7 @@ use Rattle.positions.specs.declared.phase.Paused.{Paused}
 use Rattle.positions.specs.declared.phase.Paused.TheVariants as paused
 use Rattle.positions.specs.Activations.{PlainActivation}
 use Rattle.positions.specs.Strands.{PlainStrand, PlainTask, is_entry, IsLayeredAt}
+use Rattle.positions.specs.Nesting.{NestAt}
 use Rattle.positions.specs.Advance.{next_statement, sync_pause, is_sync, bottom_pause, leaving_pause, pause_at, pause_of}
 use Rattle.positions.specs.Moves.{lowest_alone}
 use Rattle.positions.specs.Stands.{AreParents, StandsAt, StandsFor, named_fault}
@@ -72,7 +73,7 @@ module _ (setting : Setting) where
 
     laid_as : (st : State) (step : Place → BookStep) → IsLaidAs st p.strand.phase p.strand → Agrees setting (laid kits p p.strand st step) (schedules.laid setting.program setting.tables setting.memory kits' x x.strand st step)
     laid_as st step l = record {
-      pieces = record { strand = h.strand; layered = h.layered; tasks = tt; state = refl; laid = l };
+      pieces = record { strand = h.strand; layered = h.layered; nests = h.nests; tasks = tt; state = refl; laid = l };
       kits = same;
       noted = ap (λ n. step n ∷ []) (piece_place setting p x h);
     }
@@ -162,12 +163,13 @@ module _ (setting : Setting) where
         strand = subst (λ ph. StandsFor setting (lowest_alone p.strand) (record { start = x.strand.start; layers = bottom_alone setting.program setting.tables setting.memory x.strand.layers; frame = x.strand.frame; phase = ph; under = x.strand.under }) x.tally) b
             (alone_is setting p.strand x.strand x.tally h.strand);
         layered = subst (λ ph. IsLayeredAt ph (lowest_alone p.strand)) (sym e) tt;
+        nests = subst (λ ph. NestAt setting.codes ph (lowest_alone p.strand)) (sym e) tt;
         tasks = tt;
         state = refl;
         laid = subst (λ ph. IsLaidAs strands.Faulted ph (lowest_alone p.strand)) (sym e) refl;
       };
       kits =
-          (let long : length x.strand.layers ≡ suc (length p.strand.lower) = notes_long setting p.strand.layer p.strand.lower x.strand.layers h.strand.layers in
+          (let long : length x.strand.layers ≡ suc (length p.strand.lower) = notes_long setting p.strand.start p.strand.layer p.strand.lower x.strand.layers h.strand.layers in
           let e : kits' ≡ kits = same in
           omega arith);
       noted = ap (λ n. strands.Fault n ∷ []) (piece_place setting p x h);

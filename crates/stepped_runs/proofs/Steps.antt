@@ -8,7 +8,7 @@ use Rattle.meaning.specs.Strands.{holds_by, done, waits}
 use Rattle.meaning.specs.Schedules.{Piece, RunState, RunStep, work, push, inline, pop, stall, steal, fold, first_state, after_step, or_same, path}
 use Rattle.meaning.specs.Schedules as schedules
 use Rattle.trail_theory.specs.OwnLayers.{is_top_by_length}
-use Rattle.run_theory.specs.RightRuns.{PiecesFit}
+use Rattle.run_theory.specs.RightRuns.{Begins, PiecesFit}
 use Rattle.run_theory.specs.UnflaggedRuns.{unflagged_piece, unflagged_run, unflagged_after, worked_with, step_by}
 use Rattle.run_theory.proofs.Neighbours.{neighbours_join}
 use Rattle.run_theory.proofs.UnflaggedRuns.{unflagged_one, folded_quiet}
@@ -101,6 +101,12 @@ module _ (setting : Setting) where
   second_behind [] later l r h = h.1.0
   second_behind (p ∷ before) later l r h = second_behind before later l r h.1
 
+  -- only the first one begins with the run
+  second_begins : (first : Bool) (before later : List Piece) (l r : Piece) (found : List Bool)
+      → PiecesFit t setting.tables (sight_of t setting.tables) (valid_record setting.program setting.tables setting.memory.records) first (before ++ l ∷ r ∷ later) found → Begins false r.strand.start
+  second_begins first [] later l r found h = h.2.1.begins
+  second_begins first (p ∷ before) later l r found h = second_begins false before later l r h.0 h.2
+
   module _ (prepared : IsPrepared setting) where
     module _ (x : RunState) (r : IsReached setting x) where
       -- they are folded, as those with flags are
@@ -117,6 +123,7 @@ module _ (setting : Setting) where
                 (subst (λ q. schedules.folded setting.program setting.tables setting.memory w (unflagged_piece n.left) q ≡ Some (unflagged_piece j.0)) n.right_is
                 (sym (folded_quiet setting.program setting.tables setting.memory w n.left n.right) ∙ ap (unflagged_one setting.program setting.tables setting.memory) j.1));
             one_layer = ap (λ (p : Piece). length p.strand.layers) (sym n.right_is) ∙ one waiting;
+            later = subst (λ (p : Piece). Begins false p.strand.start) n.right_is (second_begins true n.before n.later n.left n.right [] (subst (λ ps. PiecesFit t setting.tables (sight_of t setting.tables) (valid_record setting.program setting.tables setting.memory.records) true ps []) n.is (right_there setting prepared x r)));
           }
 
     module _ (s : PlainRun) (x : RunState) (r : IsReached setting x) (h : StandsForUnflagged setting s x) where
@@ -179,7 +186,7 @@ module _ (setting : Setting) where
   first_agrees linked initials updates entry kits e = (
     record { kits = kits; steps = []; is = refl },
     record {
-      pieces = record { strand = first_is setting linked initials updates entry e; layered = refl; tasks = tt; state = refl; laid = tt };
+      pieces = record { strand = first_is setting linked initials updates entry e; layered = refl; nests = tt; tasks = tt; state = refl; laid = tt };
       kits = refl;
       history = refl;
     },

@@ -11,6 +11,7 @@ use Rattle.positions.specs.Setting.{Setting}
 use Rattle.positions.specs.declared.phase.Phase.{Phase}
 use Rattle.positions.specs.declared.phase.Phase.TheVariants.{Running, Returning, Leaving, Broken}
 use Rattle.positions.specs.Strands.{PlainStrand, PlainTask, is_entry, IsLayered}
+use Rattle.positions.specs.Nesting.{NestAt}
 use Rattle.positions.specs.Stands.{StandsFor, StandsForTask}
 use Rattle.stepped_runs.specs.Pieces.{PlainPiece}
 use Rattle.stepped_runs.specs.Runs.{PlainRun}
@@ -48,6 +49,7 @@ module _ (setting : Setting) where
   pub record StandsForPiece (p : PlainPiece) (x : Piece) : Type 0 where
     pub strand : StandsFor setting p.strand x.strand x.tally
     pub layered : IsLayered p.strand
+    pub nests : NestAt setting.codes p.strand.phase p.strand
     pub tasks : StandForTasks p.deque x.deque
     pub state : x.state ≡ p.state
     pub laid : IsLaidAs p.state p.strand.phase p.strand
