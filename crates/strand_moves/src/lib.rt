@@ -5,5 +5,6 @@ mod beginning;
 pub mod ending;
 pub mod joining;
 pub mod moves;
+mod nesting;
 pub mod task;
 pub mod waiting;

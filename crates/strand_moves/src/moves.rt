@@ -1,13 +1,12 @@
 //! Strands that begin, and what is taken out of a strand and put back.
-ghost use Rattle.std.specs.Prelude.{◌≡◌, ◌∷◌, [], IfOk, IfErr, length};
-ghost use Rattle.std.specs.List.{list_any};
+ghost use Rattle.std.specs.Prelude.{◌≡◌, ◌∷◌, [], IfOk, IfErr, false, length};
 ghost use Rattle.evaluation.specs.Slots.{slots_for};
-ghost use Rattle.positions.specs.Code.{may_record};
 ghost use Rattle.positions.specs.Advance.{next_statement};
 ghost use Rattle.positions.specs.Layers.{blank, begun};
 ghost use Rattle.positions.specs.Moves.{first_strand, stolen, stolen_with, inlined, detached, attached, returned_of, resumed, is_update_there, at_update};
 
 use crate::beginning::begin;
+use crate::nesting::may_nest;
 use crate::task::Task;
 use activations::activation::Activation;
 use activations::spares::Spares;
@@ -16,7 +15,7 @@ use layers::layer::{DEEPEST, Layer};
 use layers::spares::SpareLists;
 use layers::tally::Tally;
 use linked_program::checked::Checked;
-use linked_program::code::{Code, Operation};
+use linked_program::code::Operation;
 use positions::phase::Phase;
 use positions::start::Start;
 use positions::work::{Position, Work};
@@ -37,31 +36,7 @@ fn unset(alloc: Global, size: usize) -> Result<Vec<Slot>, AllocError>
     Ok(slots)
 }
 
-/// Whether a run may make records: some procedure is marked `memo`.
-fn may_record(program: &Checked) -> bool
-    ensures may { result ≡ may_record program.now.codes }
-{
-    is_one_recorded(program.codes())
-}
-
-fn is_one_recorded(codes: &[Code]) -> bool
-    ensures recorded { result ≡ list_any (λ c. c.memo) codes.now }
-{
-    for code in codes {
-        if is_recorded(code) {
-            return true;
-        }
-    }
-    false
-}
-
-fn is_recorded(code: &Code) -> bool
-    ensures recorded { result ≡ code.now.memo }
-{
-    code.memo
-}
-
-/// The layer of a run's first strand, with the program's initial values; refused for want of memory alone, and then the kit is
+/// The layer of a run's first strand, which keeps no readings, with the program's initial values; refused for want of memory alone, and then the kit is
 /// handed back.
 fn first_layer<V: View>(
     alloc: Global,
@@ -69,11 +44,11 @@ fn first_layer<V: View>(
     kit: Kit<V>,
 ) -> Result<Layer<V>, (AllocError, Kit<V>)>
     requires kinds { kit ≡ program.now.kinds }
-    ensures begun { IfOk result (λ layer. layer ≡ begun kit program.now.initials (blank (may_record program.now.codes) kit (length program.now.codes))) }
+    ensures begun { IfOk result (λ layer. layer ≡ begun kit program.now.initials (blank false kit (length program.now.codes))) }
     ensures kinds { IfOk result (λ layer. layer.kinds ≡ kit) }
     ensures handed_back { IfErr result (λ e. e.1 ≡ kit) }
 {
-    let mut layer = match Layer::open(alloc, kit, may_record(program), program.codes().len()) {
+    let mut layer = match Layer::open(alloc, kit, false, program.codes().len()) {
         Ok(layer) => layer,
         Err(refused) => return Err(refused),
     };
@@ -121,7 +96,8 @@ pub fn first<V: View>(
     })
 }
 
-/// The strand of a stolen continuation; refused for want of memory alone, and then the continuation and the kit are handed back.
+/// The strand of a stolen continuation, whose layer keeps readings where a memo instance may be around it; refused for want of memory
+/// alone, and then the continuation and the kit are handed back.
 pub fn stolen<V: View>(
     alloc: Global,
     program: &Checked,
@@ -132,7 +108,7 @@ pub fn stolen<V: View>(
     ensures task_back { IfErr result (λ e. e.1 ≡ task) }
     ensures kit_back { IfErr result (λ e. e.2 ≡ kit) }
 {
-    let layer = match Layer::open(alloc, kit, may_record(program), program.codes().len()) {
+    let layer = match Layer::open(alloc, kit, may_nest(program.codes()), program.codes().len()) {
         Ok(layer) => layer,
         Err((error, kit)) => return Err((error, task, kit)),
     };
