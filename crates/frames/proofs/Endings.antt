@@ -14,6 +14,7 @@ use Rattle.positions.specs.Activations.{PlainActivation}
 use Rattle.positions.specs.Layers.{PlainLayer, lowest}
 use Rattle.positions.specs.Tallies.{PlainTally}
 use Rattle.positions.specs.Strands.{PlainStrand}
+use Rattle.positions.specs.declared.start.Start.{Start}
 use Rattle.positions.specs.Stands.{AreNotes, IsTally, AreParents, StandsAt, named_fault}
 use Rattle.strand_moves.specs.Ends.{left_by}
 use Rattle.positions.specs.declared.answer.RunAnswer.{RunAnswer}
@@ -48,13 +49,13 @@ module _ (setting : Setting) where
       (λ j b. let c : leaving w ≡ broken j = sym h.phase ∙ b in absurd cc, λ v l. absurd (subst (AreParents setting s.path (a ∷ below)) l.2 h.under))
   ends_at s x (phase.Broken f) below path e h = h
 
-  lowest_worths : (l : PlainLayer) (lower : List PlainLayer) (ls : List Notes) → AreNotes setting (l ∷ lower) ls → (lowest l lower).worths ≡ bottom ls
-  lowest_worths l [] [] h = absurd h
-  lowest_worths l [] (n ∷ []) h = sym h.0.worths
-  lowest_worths l [] (n ∷ m ∷ ns) h = absurd h.1
-  lowest_worths l (k ∷ lower) [] h = absurd h
-  lowest_worths l (k ∷ lower) (n ∷ []) h = absurd h.1
-  lowest_worths l (k ∷ lower) (n ∷ m ∷ ns) h = lowest_worths k lower (m ∷ ns) h.1
+  lowest_worths : (st : Start) (l : PlainLayer) (lower : List PlainLayer) (ls : List Notes) → AreNotes setting st (l ∷ lower) ls → (lowest l lower).worths ≡ bottom ls
+  lowest_worths st l [] [] h = absurd h
+  lowest_worths st l [] (n ∷ []) h = sym h.0.worths
+  lowest_worths st l [] (n ∷ m ∷ ns) h = absurd h.1
+  lowest_worths st l (k ∷ lower) [] h = absurd h
+  lowest_worths st l (k ∷ lower) (n ∷ []) h = absurd h.1
+  lowest_worths st l (k ∷ lower) (n ∷ m ∷ ns) h = lowest_worths st k lower (m ∷ ns) h.1
 
   answers_by : (e : Ending) (a : RunAnswer) (x : LayeredStrand) (t : Tally) (worths : List Worth) (tally : PlainTally) → EndsAs e x → worths ≡ bottom x.layers → IsTally setting tally t → IsAnswer e worths tally a → Answers setting a x t
   answers_by (over v) (answer.Finished w values n m k) x t worths tally h e i a =
@@ -75,7 +76,7 @@ module _ (setting : Setting) where
   answers_by underway answer.NoKit x t worths tally h e i a = absurd a
 
   pub answer_is : (s : PlainStrand) (a : RunAnswer) → IsAnswer (ending_of s) (lowest s.layer s.lower).worths s.tally a → IsAnswerOf setting s a
-  answer_is s a is x t h = answers_by (ending_of s) a x t (lowest s.layer s.lower).worths s.tally (ends_at s x s.phase s.below s.path refl h.now) (lowest_worths s.layer s.lower x.layers h.layers) h.tally is
+  answer_is s a is x t h = answers_by (ending_of s) a x t (lowest s.layer s.lower).worths s.tally (ends_at s x s.phase s.below s.path refl h.now) (lowest_worths s.start s.layer s.lower x.layers h.layers) h.tally is
 
 -- ---- by whether main has left
 

@@ -146,11 +146,11 @@ module _ (setting : Setting) where
     pub worth : note.worth ≡ l.worths
     pub lower : ls ≡ []
 
-  pub one_note : (l : PlainLayer) (ls : List PlainLayer) (ns : List Notes) → IsOneLayer ns → AreNotes setting (l ∷ ls) ns → OneNote ns l ls
-  one_note l ls [] e h = absurd e
-  one_note l [] (n ∷ []) e h = record { note = n; is = refl; worth = h.0.worths; lower = refl }
-  one_note l (m ∷ ls) (n ∷ []) e h = absurd h.1
-  one_note l ls (n ∷ m ∷ ns) e h = absurd e
+  pub one_note : (st : Start) (l : PlainLayer) (ls : List PlainLayer) (ns : List Notes) → IsOneLayer ns → AreNotes setting st (l ∷ ls) ns → OneNote ns l ls
+  one_note st l ls [] e h = absurd e
+  one_note st l [] (n ∷ []) e h = record { note = n; is = refl; worth = h.0.worths; lower = refl }
+  one_note st l (m ∷ ls) (n ∷ []) e h = absurd h.1
+  one_note st l ls (n ∷ m ∷ ns) e h = absurd e
 
   none_under : (path : List ℕ) (below : List PlainActivation) (under : List Parent) → below ≡ [] → AreParents setting path below under → under ≡ []
   none_under path [] [] e h = refl
@@ -180,7 +180,7 @@ module _ (setting : Setting) where
         subst (λ ph. Unbroken ph ((w.tally.opened ≡ []) × IsOneLayer w.named.layers)) at.phase (own_main setting.program setting.tables (lookup setting) w.named w.tally is_main w.owns)
 
     one : OneNote w.named.layers s.layer s.lower
-    one = one_note s.layer s.lower w.named.layers alone.1 w.stands.layers
+    one = one_note s.start s.layer s.lower w.named.layers alone.1 w.stands.layers
 
     lowest_is : (lowest s.layer s.lower).worths ≡ one.note.worth
     lowest_is = ap (λ ls. (lowest s.layer ls).worths) one.lower ∙ sym one.worth

@@ -35,14 +35,17 @@ use Rattle.positions.specs.Advance.{pause_of, pause_at}
 use Rattle.positions.specs.Moves.{settled_by, joined, joined_at, joined_after, joined_ended, joined_broken}
 use Rattle.positions.specs.Simulation.{place_of, IsNotAtSpawn}
 use Rattle.positions.specs.Stands.{AreNotes, AreParents, StandsAt, StandsFor, IsStart, IsAt, named_fault}
+use Rattle.positions.specs.Nesting.{NestAt}
+use Rattle.position_theory.proofs.Nested.{nest_any}
 use Rattle.position_theory.proofs.Joins.{joined_is}
-use Rattle.position_theory.proofs.Starts.{entry_is}
+use Rattle.position_theory.proofs.Starts.{begins_behind as behind_by_numbers, entry_is}
 use Rattle.strand_moves.specs.Joins.{with_worths, IsDone}
 use Rattle.right_strands.specs.Remembering.{Remembers, recalling}
 use Rattle.right_strands.specs.Rightness.{sight, lookup, IsSound, IsRightBy, IsHeld}
 use Rattle.right_strands.specs.Pairs.{StopsBroken, IsPair, IsPairFrom}
 use Rattle.right_strands.proofs.Points.{HasReturned, returned_is, AtSync, at_statement, at_end, sync_is, entry_there}
 use Rattle.right_strands.proofs.Recorded.{joined_recorded}
+use Rattle.right_strands.proofs.Layered.{sound_layered}
 use Rattle.right_strands.proofs.Cuts.{Breaks, place_named, cut_of, sound_of}
 
 pub start_loose : (st : Start) (v : ℤ) (f : Fault) (path : List ℕ) (m : NamedStart) → IsStart st (Leaving v) path m → IsStart st (Broken f) path m
@@ -99,18 +102,18 @@ module _ (setting : Setting) where
     pub note : Notes
     pub is : ns ≡ note ∷ []
 
-  one_named : (l : PlainLayer) (ls : List PlainLayer) (ns : List Notes) → ls ≡ [] → AreNotes setting (l ∷ ls) ns → OneNamed ns
-  one_named l [] [] e h = absurd h
-  one_named l [] (n ∷ []) e h = record { note = n; is = refl }
-  one_named l [] (n ∷ m ∷ ns) e h = absurd h.1
-  one_named l (m ∷ ls) ns e h = absurd cc
+  one_named : (st : Start) (l : PlainLayer) (ls : List PlainLayer) (ns : List Notes) → ls ≡ [] → AreNotes setting st (l ∷ ls) ns → OneNamed ns
+  one_named st l [] [] e h = absurd h
+  one_named st l [] (n ∷ []) e h = record { note = n; is = refl }
+  one_named st l [] (n ∷ m ∷ ns) e h = absurd h.1
+  one_named st l (m ∷ ls) ns e h = absurd cc
 
   -- and the other way round
-  one_numbered : (l : PlainLayer) (ls : List PlainLayer) (ns : List Notes) → IsOneLayer ns → AreNotes setting (l ∷ ls) ns → ls ≡ []
-  one_numbered l ls [] e h = absurd e
-  one_numbered l [] (n ∷ []) e h = refl
-  one_numbered l (m ∷ ls) (n ∷ []) e h = absurd h.1
-  one_numbered l ls (n ∷ m ∷ ns) e h = absurd e
+  one_numbered : (st : Start) (l : PlainLayer) (ls : List PlainLayer) (ns : List Notes) → IsOneLayer ns → AreNotes setting st (l ∷ ls) ns → ls ≡ []
+  one_numbered st l ls [] e h = absurd e
+  one_numbered st l [] (n ∷ []) e h = refl
+  one_numbered st l (m ∷ ls) (n ∷ []) e h = absurd h.1
+  one_numbered st l ls (n ∷ m ∷ ns) e h = absurd e
 
   -- ---- at a sync
 
@@ -142,7 +145,7 @@ module _ (setting : Setting) where
   stalled_alone r at h =
       let s = sync_is setting.codes r at in
       let w = sound_of setting r (λ f e. not_broken r s f e) h in
-      one_numbered r.layer r.lower w.named.layers (bare r s (entry_there setting.codes r at) w).1 w.stands.layers
+      one_numbered r.start r.layer r.lower w.named.layers (bare r s (entry_there setting.codes r at) w).1 w.stands.layers
 
   -- ---- one of them has a fault
 
@@ -220,7 +223,7 @@ module _ (setting : Setting) where
         let w = sound_of setting r0 (λ f e. not_broken r s f e) h.right in
         let y = w.named in
         let b = begins_behind y.start l.path p.last p.front (there y.start w.stands.start) p.path in
-        let one = one_named r0.layer r.lower y.layers h.one_layer w.stands.layers in
+        let one = one_named r0.start r0.layer r.lower y.layers h.one_layer w.stands.layers in
         let z = definitions.joined setting.program.tree x p.value y in
         let may : may_join setting.program setting.tables setting.memory x z ≡ true = h.free p.value p.phase at x y left_sound.tally w.tally p.value left_sound.stands w.stands in
         let same : same_name x.frame.instance (place_of_start y.start) ≡ true = ap (λ n. same_name n (place_of_start y.start)) (left_instance ∙ sym (there y.start w.stands.start)) ∙ same_itself (place_of_start y.start) in
@@ -228,7 +231,7 @@ module _ (setting : Setting) where
         ap (λ ph. joined_pair setting.program setting.tables setting.memory x ph y y.phase) left_at.phase
         ∙ pair_sound setting.program setting.tables setting.memory x y p.value y.phase (λ k q. named_sound r0 y (valued_sync s) w.stands.now k q)
         ∙ ap (λ c. cond c (Some z) None) (both_true (same_name x.frame.instance (place_of_start y.start)) (may_join setting.program setting.tables setting.memory x z) same may) in
-        let stands : StandsFor setting (joined l0 r0) z (named_tallies_joined left_sound.tally w.tally) = joined_is setting l0 r0 x y z left_sound.tally w.tally (not_at_spawn s) h.one_layer left_sound.stands w.stands pair in
+        let stands : StandsFor setting (joined l0 r0) z (named_tallies_joined left_sound.tally w.tally) = joined_is setting l0 r0 x y z left_sound.tally w.tally (not_at_spawn s) h.one_layer (behind_by_numbers r0.start r0.phase r0.path b.over b.child (subst (IsStart r0.start r0.phase r0.path) b.start w.stands.start)) left_sound.nests (sound_layered setting l0 left_sound) left_sound.stands w.stands pair in
         let product : operate_all l.layer.kinds l.layer.worths r.layer.worths ≡ operate_all l.layer.kinds h.left_worths h.right_worths =
         subst (λ ks. operate_all ks l.layer.worths r.layer.worths ≡ operate_all ks h.left_worths h.right_worths) (sym h.left_kinds) h.product in
         let owns = (stay_own setting.program setting.tables (lookup setting) (law setting.program setting.tables setting.memory ready) ready.rules numbered (sound setting.program setting.tables setting.memory ready)).joins
@@ -238,6 +241,7 @@ module _ (setting : Setting) where
           named = z;
           tally = named_tallies_joined left_sound.tally w.tally;
           stands = subst (λ s. StandsFor setting s z (named_tallies_joined left_sound.tally w.tally)) (joined_by0 s ∙ ended_same l r h.left_worths h.right_worths product p.value) stands;
+          nests = nest_any setting.codes (joined_ended l p.value r).phase (joined_ended l p.value r) (subst (λ q. NestAt setting.codes q l0) p.phase left_sound.nests);
           owns = owns;
           recorded = joined_recorded setting ready x y left_sound.tally w.tally p.value b.over b.child one.note left_at.phase left_under b.start (left_instance ∙ b.place) one.is
               (may_join_true setting.program setting.tables setting.memory x z may) (bare r0 (valued_sync s) (entry_there setting.codes r at) w).0 left_sound.owns left_sound.recorded w.owns w.recorded owns;

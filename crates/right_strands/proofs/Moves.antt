@@ -9,6 +9,7 @@ use Rattle.meaning.specs.Trail.{child_of}
 use Rattle.meaning.specs.SmallStep.{Frame, Child, Todo, spawning, leaving, Parent, place_of_continuation}
 use Rattle.meaning.specs.Tallies.{no_tally}
 use Rattle.meaning.specs.LayeredStrand.{inlined, detached, continuation, resumed, stolen}
+use Rattle.linked_program.specs.declared.code.Code.{Code}
 use Rattle.linked_program.specs.Checked.{PlainChecked}
 use Rattle.input_tables.specs.Edited.{Edited}
 use Rattle.record_theory.specs.Record.{PlainRecord}
@@ -20,17 +21,25 @@ use Rattle.positions.specs.Activations.{PlainActivation}
 use Rattle.positions.specs.Layers.{PlainLayer}
 use Rattle.positions.specs.Setting.{Setting, setting_with}
 use Rattle.positions.specs.Strands.{PlainStrand, PlainTask, shorter}
+use Rattle.positions.specs.Nesting.{AreNested, NestAt}
 use Rattle.positions.specs.Moves as moves
 use Rattle.positions.specs.Stands.{AreParents, StandsAt, IsStart, IsAt}
 use Rattle.positions.specs.Simulation.{IsInlined, IsDetached, IsResumed, IsStolen}
+use Rattle.position_theory.proofs.Nested.{nest_any, nest_none}
 use Rattle.position_theory.proofs.Moves.{inlined_is}
 use Rattle.right_strands.specs.Picked.{IsSet}
 use Rattle.right_strands.specs.Remembering.{recalling}
 use Rattle.right_strands.specs.Rightness.{Pushed, FitsHere, IsSound, IsRightBy, IsRightTaskBy, IsRightTask, IsHeld, WasDetached}
 use Rattle.right_strands.proofs.Starts.{start_same, start_tight}
+use Rattle.right_strands.proofs.Layered.{none_opened}
 use Rattle.right_strands.proofs.Owned.{stolen_own, inlined_own, detached_own, continuation_own, popped_own}
 use Rattle.right_strands.proofs.Recorded.{inlined_recorded, detached_recorded, popped_recorded, stolen_recorded}
 use Rattle.right_strands.proofs.Settings.{set_with}
+
+-- on with a continuation, all layers are of instances around
+resumed_nests : (codes : List Code) (task : PlainTask) (s : PlainStrand) (o : Option ℤ) → AreNested codes s.tally.opened → NestAt codes (moves.resumed_by o task s).phase (moves.resumed_by o task s)
+resumed_nests codes task s None h = nest_any codes s.phase s h
+resumed_nests codes task s (Some v) h = nest_any codes Running (moves.resumed_by (Some v) task s) h
 
 module _ (setting : Setting) where
   -- ---- at a spawn
@@ -87,6 +96,7 @@ module _ (setting : Setting) where
         named = inlined setting.program.tree w.named p.depth p.into p.child p.todo;
         tally = w.tally;
         stands = f w.named w.tally p.depth p.into p.child p.todo w.stands p.phase;
+        nests = subst (λ ph. NestAt setting.codes ph s) e w.nests;
         owns = inlined_own setting w.named w.tally p.depth p.into p.child p.todo p.phase w.owns;
         recorded = inlined_recorded setting w.named w.tally w.owns w.recorded p.depth p.into p.child p.todo p.phase (inlined_own setting w.named w.tally p.depth p.into p.child p.todo p.phase w.owns);
       })
@@ -99,6 +109,7 @@ module _ (setting : Setting) where
         named = detached setting.program.tree w.named p.depth p.child;
         tally = w.tally;
         stands = (f w.named w.tally p.depth p.into p.child p.todo w.stands p.phase).0;
+        nests = subst (λ ph. NestAt setting.codes ph s) e w.nests;
         owns = detached_own setting w.named w.tally p.depth p.into p.child p.todo p.phase w.owns;
         recorded = detached_recorded setting w.named w.tally w.owns w.recorded p.depth p.into p.child p.todo p.phase (detached_own setting w.named w.tally p.depth p.into p.child p.todo p.phase w.owns);
       })
@@ -125,6 +136,7 @@ module _ (setting : Setting) where
     named = stolen setting.program.tree h.named;
     tally = no_tally;
     stands = f h.named h.stands;
+    nests = nest_none setting.codes s.phase s (none_opened setting s.tally.opened (f h.named h.stands).tally.opened);
     owns = stolen_own setting h.named h.right;
     recorded = stolen_recorded setting h.named h.right (stolen_own setting h.named h.right);
   })
@@ -145,6 +157,7 @@ module _ (setting : Setting) where
           named = resumed setting.program.tree x task.named v;
           tally = w.tally;
           stands = f x w.tally task.named v fits.1 w.stands task.stands n.phase under;
+          nests = resumed_nests setting.codes k.task s (moves.returned_of s) (subst (λ q. NestAt setting.codes q s) ph w.nests);
           owns = owns;
           recorded = popped_recorded setting x w.tally w.owns w.recorded task.named v n.phase under since place task.right owns;
         }

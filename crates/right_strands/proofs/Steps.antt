@@ -18,6 +18,8 @@ use Rattle.positions.specs.Strands.{PlainStrand}
 use Rattle.positions.specs.Advance.{advanced, advanced_at}
 use Rattle.positions.specs.Moves.{first_strand}
 use Rattle.positions.specs.Simulation.{IsSmallStep, IsFirst, small_step, tally_after}
+use Rattle.positions.specs.Nesting.{NestAt}
+use Rattle.position_theory.proofs.Nested.{nest_none, nests_kept}
 use Rattle.small_steps.specs.Steps.{HoldsBy, IsStepOf}
 use Rattle.activations.specs.Given.{setting_over}
 use Rattle.positions.specs.Stands.{IsStart}
@@ -25,6 +27,7 @@ use Rattle.right_strands.specs.Picked.{IsSet}
 use Rattle.right_strands.specs.Remembering.{Remembers, recalling}
 use Rattle.right_strands.specs.Rightness.{IsSound, IsCut, IsRightBy, IsHeld}
 use Rattle.right_strands.proofs.Starts.{starts_same}
+use Rattle.right_strands.proofs.Layered.{none_opened, sound_layered}
 use Rattle.right_strands.proofs.Owned.{first_own, made_hold, steps_own}
 use Rattle.right_strands.proofs.Recorded.{start_kept, first_recorded, stepped_recorded}
 use Rattle.right_strands.proofs.Settings.{advanced_with, advanced_is, set_with, kept_with}
@@ -35,15 +38,15 @@ pub record GoesOn (setting : Setting) (s s' : PlainStrand) : Type 0 where
   pub begins : s.start ≡ s'.start
 
 module _ (setting : Setting) (ready : IsReady setting.program setting.tables setting.memory) (numbered : IsNumbered setting.program) where
-  sound_step : (kit : Bool) (s s' : PlainStrand) → IsSmallStep setting kit s s' → IsSound setting s → GoesOn setting s s'
-  sound_step kit s s' step h =
-      let x : LayeredStrand = named_advanced setting.program.tree h.named (small_step setting kit h.named h.tally) in
-      let t : Tally = tally_after setting kit h.named h.tally in
-      let owns = steps_own setting ready numbered kit h.named h.tally h.owns in
-      let stands = step h.named h.tally h.stands (made_hold setting x t owns) in
+  sound_step : (kit kit' : Bool) (s s' : PlainStrand) → s' ≡ advanced setting kit s → IsSmallStep setting kit' s s' → IsSound setting s → GoesOn setting s s'
+  sound_step kit kit' s s' e step h =
+      let x : LayeredStrand = named_advanced setting.program.tree h.named (small_step setting kit' h.named h.tally) in
+      let t : Tally = tally_after setting kit' h.named h.tally in
+      let owns = steps_own setting ready numbered kit' h.named h.tally h.owns in
+      let stands = step h.named h.tally h.stands (sound_layered setting s h) (made_hold setting x t owns) in
       record {
-        right = inl (record { named = x; tally = t; stands = stands; owns = owns; recorded = stepped_recorded setting h.named h.tally h.owns h.recorded ready numbered kit owns });
-        begins = starts_same s.start s'.start s.phase s'.phase s.path s'.path h.named.start h.stands.start (subst (IsStart s'.start s'.phase s'.path) (start_kept setting.program.tree h.named (small_step setting kit h.named h.tally)) stands.start);
+        right = inl (record { named = x; tally = t; stands = stands; nests = subst (λ u. NestAt setting.codes u.phase u) (sym e) (nests_kept setting kit s h.nests); owns = owns; recorded = stepped_recorded setting h.named h.tally h.owns h.recorded ready numbered kit' owns });
+        begins = starts_same s.start s'.start s.phase s'.phase s.path s'.path h.named.start h.stands.start (subst (IsStart s'.start s'.phase s'.path) (start_kept setting.program.tree h.named (small_step setting kit' h.named h.tally)) stands.start);
       }
 
   cut_step : (kit : Bool) (s s' : PlainStrand) → s' ≡ advanced setting kit s → IsCut setting s → GoesOn setting s s'
@@ -52,13 +55,13 @@ module _ (setting : Setting) (ready : IsReady setting.program setting.tables set
       record { right = inr (subst (IsCut setting) (sym same) h); begins = ap (λ (s : PlainStrand). s.start) (sym same) }
 
   pub step_right : (kit kit' : Bool) (s s' : PlainStrand) → s' ≡ advanced setting kit s → IsSmallStep setting kit' s s' → IsRightBy setting s → GoesOn setting s s'
-  step_right kit kit' s s' e step (inl h) = sound_step kit' s s' step h
+  step_right kit kit' s s' e step (inl h) = sound_step kit kit' s s' e step h
   step_right kit kit' s s' e step (inr h) = cut_step kit s s' e h
 
   -- ---- the beginning
 
   pub first_right : (s : PlainStrand) → IsFirst setting s → IsRightBy setting s
-  first_right s h = inl (record { named = first_layered setting.program.tree; tally = no_tally; stands = h; owns = first_own setting; recorded = first_recorded setting (first_own setting) })
+  first_right s h = inl (record { named = first_layered setting.program.tree; tally = no_tally; stands = h; nests = nest_none setting.codes s.phase s (none_opened setting s.tally.opened h.tally.opened); owns = first_own setting; recorded = first_recorded setting (first_own setting) })
 
 -- ---- a step of the code
 

@@ -17,6 +17,7 @@ use Rattle.positions.specs.declared.phase.Phase.TheVariants.{AtSpawn, Leaving, B
 use Rattle.positions.specs.declared.start.Start.{Start}
 use Rattle.positions.specs.Setting.{Setting}
 use Rattle.positions.specs.Strands.{PlainStrand, PlainTask}
+use Rattle.positions.specs.Nesting.{NestAt}
 use Rattle.positions.specs.Moves.{detached}
 use Rattle.positions.specs.Stands.{StandsFor, StandsForTask, IsStart, named_fault}
 use Rattle.right_strands.specs.Remembering.{Remembers, recalling}
@@ -52,11 +53,13 @@ module _ (setting : Setting) where
   abbrev pub lookup : Lookup
   lookup = valid_record setting.program setting.tables setting.memory.records
 
-  -- it stands for a strand of the definitions that is right and owns its layers, with a tally that has counted and recorded its stretch
+  -- it stands for a strand of the definitions that is right and owns its layers, with a tally that has counted and recorded its stretch;
+  -- where layers are open around others some memo procedure enters others
   pub record IsSound (s : PlainStrand) : Type 0 where
     pub named : LayeredStrand
     pub tally : Tally
     pub stands : StandsFor setting s named tally
+    pub nests : NestAt setting.codes s.phase s
     pub owns : OwnsNow setting.program setting.tables lookup named tally
     pub recorded : HasRecordedStretch tally (stretch owns.tallied.right.segments)
 
