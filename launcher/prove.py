@@ -5,7 +5,8 @@
 they count, so a proof that nothing else runs beside gets one processor alone. Here they come after all others, but for those
 of crates with edits, which wait for them. And a proof keeps the processors that it began with, of which a large one gets one,
 since each is reckoned to take the memory that the first one does. Here each proof of the longest chain, and of those that are
-nearly as long, gets as many as memory holds, up to four: the further ones share what the first has loaded.
+nearly as long, gets as many as memory holds, up to four: the further ones share what the first has loaded. A program comes
+before the tests that are ready by then, which would go first, being longer: its sessions and figures wait for it.
 Where rt's files are made otherwise than this knows of, this is `rt ci` and no more.
 """
 import importlib.machinery
@@ -14,6 +15,7 @@ import os
 import shutil
 import sys
 
+TOP = os.path.dirname(os.path.dirname(os.path.realpath(__file__)))
 # What the first job of a proof takes of memory at most, and what each further one takes beside it, in bytes.
 FIRST, FURTHER = 3_500_000_000, 1_000_000_000
 # What part of the longest chain's work makes another one long.
@@ -68,6 +70,20 @@ def chain_first(rt, tasks):
     }
 
 
+def is_program(crate):
+    """Whether the crate of that name is a program."""
+    return os.path.exists(f"{TOP}/crates/{crate}/src/main.rt")
+
+
+def programs_first(tasks):
+    """The tasks, where each program counts for as much as the largest crate with tests, so that none of these comes before it."""
+    largest = max((work for name, (_, work, *_) in tasks.items() if kind_of(name) == "tests"), default=0)
+    return {
+        name: (before, work + largest * (kind_of(name) == "proof" and is_program(name[0])), *rest)
+        for name, (before, work, *rest) in tasks.items()
+    }
+
+
 def without_work(tasks):
     """The tests of crates that have none, as far as no other task waits for them."""
     waited_for = {other for before, *_ in tasks.values() for other in before}
@@ -79,7 +95,7 @@ def work_first(rt, in_lanes):
 
     def run(tasks):
         behind = without_work(tasks)
-        given = in_lanes(chain_first(rt, {name: task for name, task in tasks.items() if name not in behind}))
+        given = in_lanes(programs_first(chain_first(rt, {name: task for name, task in tasks.items() if name not in behind})))
         for name in behind:
             *_, call = tasks[name]
             given[name] = call(given, 1)
