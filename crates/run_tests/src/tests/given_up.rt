@@ -41,18 +41,29 @@ fn over_lists<V: View, W: View, F: Fn(Kind) -> Result<V, AllocError>>(
     played
 }
 
+/// Compares what the line of a row led to.
+fn led_to(rt: &impl Abort, played: &Played, row: Row) {
+    assert!(rt; played.leads_to(row.3, row.6), "after {}", row.2);
+    assert!(rt;
+        played.strands.as_str() == row.4 && played.is_over == row.5,
+        "after {}",
+        row.2
+    );
+}
+
 /// A row below, over two kits of boxed lists. Each box is dropped once.
 fn over_boxes<W: View>(rt: &impl Abort, alloc: Global, session: &Session<W>, row: Row) {
-    let (_, refuses, line, refused, strands, is_over, answer, boxes) = row;
     let drops = Arc::new(alloc, AtomicUsize::new(0)).expect(rt, "memory");
+    let refuses = row.1;
     let make = |_kind: Kind| boxed(alloc, refuses, &drops);
-    let played = over_lists(rt, alloc, session, line, &make);
-    assert!(rt; played.leads_to(refused, answer), "after {line}");
-    assert_eq!(rt; played.strands.as_str(), strands);
-    assert_eq!(rt;
-        (played.is_over, drops.load(Ordering::SeqCst)),
-        (is_over, boxes)
-    );
+    let played = over_lists(rt, alloc, session, row.2, &make);
+    led_to(rt, &played, row);
+    is_count(rt, &drops, row.7);
+}
+
+/// Compares a count of drops.
+fn is_count(rt: &impl Abort, drops: &AtomicUsize, wanted: usize) {
+    assert_eq!(rt; drops.load(Ordering::SeqCst), wanted);
 }
 
 /// Runs the row in a session of its own program, over kits in boxes.
@@ -175,8 +186,8 @@ proc main() { x = spawn leaf(1); update one 2; update two 2; sync; return x; }
 
 #[test]
 fn refused_memory(rt: HostRuntime) {
-    for row in ROWS {
-        over_boxes_in(&rt, rt.alloc(), row);
+    for row in &ROWS {
+        over_boxes_in(&rt, rt.alloc(), *row);
     }
 }
 
@@ -204,7 +215,7 @@ fn drops_each<W: View>(rt: &impl Abort, alloc: Global, session: &Session<W>, lin
     let make = |_kind: Kind| Stubborn::new(alloc, Refuses::Nothing, &drops);
     let kits = kits_by(alloc, session.checked().kinds(), 2, &make).expect(rt, "kits");
     let_go(rt, alloc, session, Pool::new(kits), line);
-    assert_eq!(rt; drops.load(Ordering::SeqCst), 2, "after {line}");
+    is_count(rt, &drops, 2);
 }
 
 fn all_are_dropped<W: View>(rt: &impl Abort, alloc: Global, session: &Session<W>) {

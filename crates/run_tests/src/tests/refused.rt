@@ -21,6 +21,12 @@ fn push_cell(text: &mut String, cell: Option<i64>) -> Result<(), AllocError> {
     }
 }
 
+/// Writes the cells of a row.
+fn push_row(text: &mut String, tables: &Tables, row: i64) -> Result<(), AllocError> {
+    push_cell(text, tables.cell(0, row, 0))?;
+    push_cell(text, tables.cell(0, row, 1))
+}
+
 /// Writes how many edits the tables have had, and of the sales the limit, the sums and the cells.
 fn push_tables(text: &mut String, tables: &Tables) -> Result<(), AllocError> {
     let (edits, limit) = (tables.edit_number(), tables.limit(0));
@@ -29,11 +35,9 @@ fn push_tables(text: &mut String, tables: &Tables) -> Result<(), AllocError> {
         text,
         "{edits} edits, limit {limit}, sums {quantities} {prices}:"
     )?;
-    for row in [1, 2, 3] {
-        push_cell(text, tables.cell(0, row, 0))?;
-        push_cell(text, tables.cell(0, row, 1))?;
-    }
-    Ok(())
+    push_row(text, tables, 1)?;
+    push_row(text, tables, 2)?;
+    push_row(text, tables, 3)
 }
 
 /// Writes the revision number of `line`, and the least one that was never used.
@@ -73,21 +77,37 @@ pub fn state_of<V: View>(rt: &impl Abort, alloc: Global, session: &Session<V>) -
     text
 }
 
-/// What the call that a command names answers.
-fn call<V: View>(alloc: Global, session: &mut Session<V>, command: &Command<'_>) -> Answer {
-    match command {
-        Command::Edit(edit) => Answer::Edit(session.apply(alloc, edit)),
-        Command::Run { workers, steps } => Answer::Run(run_session(
-            alloc, session, *workers, steps,
-        )),
-    }
+/// Compares what a session holds.
+pub fn is_so<V: View>(rt: &impl Abort, alloc: Global, session: &Session<V>, wanted: &str) {
+    let found = state_of(rt, alloc, session);
+    assert_eq!(rt; found.as_str(), wanted);
+}
+
+/// Whether an edit was refused for want of memory.
+fn is_edit_refused(edited: &Result<(), ApplyError>) -> bool {
+    matches!(edited, Err(ApplyError::NoMemory))
+}
+
+/// Whether a run was refused for want of memory.
+fn is_run_refused(came: &RunAnswer) -> bool {
+    matches!(came, RunAnswer::NoMemory)
 }
 
 /// Whether a command was refused for want of memory.
 fn is_refused(answer: &Answer) -> bool {
     match answer {
-        Answer::Edit(edited) => matches!(edited, Err(ApplyError::NoMemory)),
-        Answer::Run(came) => matches!(came, RunAnswer::NoMemory),
+        Answer::Edit(edited) => is_edit_refused(edited),
+        Answer::Run(came) => is_run_refused(came),
+    }
+}
+
+/// Makes the call that a command names: whether memory was refused for it.
+fn is_one_refused<V: View>(alloc: Global, session: &mut Session<V>, command: &Command<'_>) -> bool {
+    match command {
+        Command::Edit(edit) => is_edit_refused(&session.apply(alloc, edit)),
+        Command::Run { workers, steps } => {
+            is_run_refused(&run_session(alloc, session, *workers, steps))
+        }
     }
 }
 
@@ -98,8 +118,17 @@ fn is_call_refused<V: View>(
     commands: &[Command<'_>],
 ) -> bool {
     for command in commands {
-        let answer = call(alloc, session, command);
-        if is_refused(&answer) {
+        if is_one_refused(alloc, session, command) {
+            return true;
+        }
+    }
+    false
+}
+
+/// Whether memory was refused for one of the commands that were answered so.
+fn is_any_refused(answers: &[Answer]) -> bool {
+    for answer in answers {
+        if is_refused(answer) {
             return true;
         }
     }
@@ -112,15 +141,10 @@ fn is_play_refused<V: View>(
     session: &mut Session<V>,
     commands: &[Command<'_>],
 ) -> bool {
-    let Ok(answers) = play_session(alloc, session, commands) else {
-        return true;
-    };
-    for answer in &answers {
-        if is_refused(answer) {
-            return true;
-        }
+    match play_session(alloc, session, commands) {
+        Ok(answers) => is_any_refused(&answers),
+        Err(_) => true,
     }
-    false
 }
 
 /// Does commands by the calls that they name, or has them played: whether memory was refused.
@@ -147,14 +171,8 @@ fn is_done<V: View>(
 ) {
     let before = state_of(rt, alloc, session);
     if lacks_memory(alloc, session, one, is_played) {
-        let after = state_of(rt, alloc, session);
-        assert_eq!(rt;
-            after.as_str(),
-            before.as_str(),
-            "changed by what was refused"
-        );
-        let lacks_again = lacks_memory(alloc, session, one, is_played);
-        assert!(rt; !lacks_again, "refused once more");
+        is_so(rt, alloc, session, &before);
+        assert!(rt; !lacks_memory(alloc, session, one, is_played));
     }
 }
 
@@ -199,8 +217,7 @@ fn are_done<V: View>(rt: &impl Abort, alloc: Global, session: &mut Session<V>, a
 /// Compares what the script leaves: whatever was refused, the commands have been done.
 fn is_left<V: View>(rt: &impl Abort, alloc: Global, session: &mut Session<V>, are_played: bool) {
     are_done(rt, alloc, session, are_played);
-    let found = state_of(rt, alloc, session);
-    assert_eq!(rt; found.as_str(), AFTER);
+    is_so(rt, alloc, session, AFTER);
 }
 
 /// Compares it in a new session.

@@ -1,7 +1,7 @@
 //! Reports that memory may be refused to: a run comes to what the report comes to, or to nothing, and then the session is as it was.
 //! With ample memory none is refused: `tests/refused` refuses each allocation in turn.
 
-use super::refused::state_of;
+use super::refused::{is_so, state_of};
 use super::words::steps;
 use reuse_planner::{Session, run_session};
 use session_kit::answers::answer_text;
@@ -73,21 +73,28 @@ const OTHERS: [Row; 3] = [
     ),
 ];
 
-/// Whether a run is refused memory, or doesn't end since a push was: then the session is as before. Else it comes to what it should.
+/// What a run by the line of a row comes to.
+fn text_of<V: View>(rt: &impl Abort, alloc: Global, session: &mut Session<V>, row: Row) -> String {
+    let steps = steps(rt, alloc, row.3);
+    let answer = run_session(alloc, session, row.1, &steps);
+    answer_text(alloc, session.checked(), &answer).expect(rt, "memory")
+}
+
+/// Whether a run was refused memory, by what it came to: it doesn't end where a push was refused.
+fn was_refused<V: View>(session: &Session<V>, text: &str) -> bool {
+    text == "no memory\n" || text == "unfinished\n" && session.last_inlined() > 0
+}
+
+/// Whether a run is refused memory: then the session is as before. Else it comes to what it should.
 fn is_refused<V: View>(rt: &impl Abort, alloc: Global, session: &mut Session<V>, row: Row) -> bool {
-    let (_, workers, _, line, wanted) = row;
     let before = state_of(rt, alloc, session);
-    let steps = steps(rt, alloc, line);
-    let answer = run_session(alloc, session, workers, &steps);
-    let text = answer_text(alloc, session.checked(), &answer).expect(rt, "memory");
-    if text.as_str() == wanted {
-        return false;
+    let text = text_of(rt, alloc, session, row);
+    if text.as_str() != row.4 {
+        assert!(rt; was_refused(session, &text));
+        is_so(rt, alloc, session, &before);
+        return true;
     }
-    let is_unfinished = text.as_str() == "unfinished\n" && session.last_inlined() > 0;
-    assert!(rt; is_unfinished || text.as_str() == "no memory\n");
-    let after = state_of(rt, alloc, session);
-    assert_eq!(rt; after.as_str(), before.as_str());
-    true
+    false
 }
 
 /// Of two runs one at most is refused, where one allocation is.

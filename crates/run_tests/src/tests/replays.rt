@@ -57,9 +57,13 @@ const BAD: [(&str, &str); 28] = [
     ("Sr11 S122 L2 E1 F120", "step 4 is not allowed"),
 ];
 
+/// Compares texts.
+fn is_same(rt: &impl Abort, found: &str, wanted: &str) {
+    assert_eq!(rt; found, wanted);
+}
+
 fn comes_to(rt: &impl Abort, alloc: Global, history: &str, wanted: &str) {
-    let found = replayed(rt, alloc, history);
-    assert_eq!(rt; found.as_str(), wanted, "{history}");
+    is_same(rt, &replayed(rt, alloc, history), wanted);
 }
 
 #[test]
@@ -82,7 +86,7 @@ const SAID: [(BookError, &str); 5] = [
 
 fn says(rt: &impl Abort, alloc: Global, error: BookError, wanted: &str) {
     let said = format!(in alloc; "{error}").expect(rt, "memory");
-    assert_eq!(rt; said.as_str(), wanted);
+    is_same(rt, &said, wanted);
 }
 
 #[test]
