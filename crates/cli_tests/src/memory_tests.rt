@@ -239,8 +239,8 @@ const REPORTS: [(&[u8], &[u8], &[u8]); 3] = [
 
 #[test]
 fn of_reports(rt: HostRuntime) {
-    for (text, script, answers) in REPORTS {
-        assert!(&rt; is_written(&rt, rt.alloc(), text, script, answers));
+    for row in &REPORTS {
+        assert!(&rt; is_written(&rt, rt.alloc(), row.0, row.1, row.2));
     }
 }
 

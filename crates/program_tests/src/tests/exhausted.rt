@@ -116,7 +116,7 @@ fn are_answered(rt: &impl Abort, alloc: Global, counter: u64, text: &str, wanted
 
 #[test]
 fn numbers_up_to_the_last(rt: HostRuntime) {
-    for (counter, text, wanted) in ANSWERS {
-        are_answered(&rt, rt.alloc(), counter, text, wanted);
+    for row in &ANSWERS {
+        are_answered(&rt, rt.alloc(), row.0, row.1, row.2);
     }
 }

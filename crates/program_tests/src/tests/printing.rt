@@ -66,7 +66,7 @@ fn is_so(alloc: Global, old: &str, first: &str, second: &str, wanted: &str) -> b
 
 #[test]
 fn definitions(rt: HostRuntime) {
-    for (old, first, second, wanted) in DEFINED {
-        assert!(rt; is_so(rt.alloc(), old, first, second, wanted));
+    for row in &DEFINED {
+        assert!(rt; is_so(rt.alloc(), row.0, row.1, row.2, row.3));
     }
 }

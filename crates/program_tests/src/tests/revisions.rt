@@ -89,8 +89,8 @@ fn is_answered(rt: &impl Abort, alloc: Global, before: &Checked, text: &str, wan
 
 /// Compares the answers to texts in the place of `THREE`.
 fn are_answered(rt: &impl Abort, alloc: Global, before: &Checked) {
-    for (text, wanted) in ANSWERS {
-        is_answered(rt, alloc, before, text, wanted);
+    for row in &ANSWERS {
+        is_answered(rt, alloc, before, row.0, row.1);
     }
 }
 

@@ -55,8 +55,8 @@ fn is_refused(rt: &impl Abort, alloc: Global, tables: &mut Tables, row: Wrong) {
 
 /// Asks for tables that are refused, adds one, and puts a row into it.
 fn add(rt: &impl Abort, alloc: Global, tables: &mut Tables) {
-    for row in NOT_ADDED {
-        is_refused(rt, alloc, tables, row);
+    for row in &NOT_ADDED {
+        is_refused(rt, alloc, tables, *row);
     }
     tables.add(alloc, "parts", &COLUMNS).expect(rt, "a table");
     tables.put(alloc, "parts", 7, &[3, 4]).expect(rt, "a row");

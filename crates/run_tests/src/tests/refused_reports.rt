@@ -122,8 +122,8 @@ fn lists_are_dropped(rt: &impl Abort, alloc: Global, row: Row) {
 
 #[test]
 fn lists_that_are_refused_memory(rt: HostRuntime) {
-    for row in LISTS {
-        lists_are_dropped(&rt, rt.alloc(), row);
+    for row in &LISTS {
+        lists_are_dropped(&rt, rt.alloc(), *row);
     }
 }
 
@@ -141,7 +141,7 @@ fn others_are_done(rt: &impl Abort, alloc: Global, row: Row) {
 
 #[test]
 fn others_that_are_refused_memory(rt: HostRuntime) {
-    for row in OTHERS {
-        others_are_done(&rt, rt.alloc(), row);
+    for row in &OTHERS {
+        others_are_done(&rt, rt.alloc(), *row);
     }
 }

@@ -68,11 +68,11 @@ fn comes_to(rt: &impl Abort, alloc: Global, history: &str, wanted: &str) {
 
 #[test]
 fn histories_are_replayed(rt: HostRuntime) {
-    for (history, left) in LEGAL {
-        comes_to(&rt, rt.alloc(), history, left);
+    for row in &LEGAL {
+        comes_to(&rt, rt.alloc(), row.0, row.1);
     }
-    for (history, refusal) in BAD {
-        comes_to(&rt, rt.alloc(), history, refusal);
+    for row in &BAD {
+        comes_to(&rt, rt.alloc(), row.0, row.1);
     }
 }
 

@@ -221,8 +221,8 @@ fn leads_so(rt: &impl Abort, alloc: Global, row: Row) {
 
 #[test]
 fn answers_and_histories(rt: HostRuntime) {
-    for row in ROWS {
-        leads_so(&rt, rt.alloc(), row);
+    for row in &ROWS {
+        leads_so(&rt, rt.alloc(), *row);
     }
 }
 
@@ -246,8 +246,8 @@ fn stands_so(rt: &impl Abort, alloc: Global, text: &str, line: &str, strands: &s
 
 #[test]
 fn strands_where_a_run_stands(rt: HostRuntime) {
-    for (text, line, strands) in STANDING {
-        stands_so(&rt, rt.alloc(), text, line, strands);
+    for row in &STANDING {
+        stands_so(&rt, rt.alloc(), row.0, row.1, row.2);
     }
 }
 
@@ -308,7 +308,7 @@ fn is_refused_so(
 
 #[test]
 fn step_refusals(rt: HostRuntime) {
-    for (workers, count, line, refused) in REFUSED {
-        is_refused_so(&rt, rt.alloc(), workers, count, line, refused);
+    for row in &REFUSED {
+        is_refused_so(&rt, rt.alloc(), row.0, row.1, row.2, row.3);
     }
 }

@@ -122,8 +122,8 @@ fn two_runs(rt: &impl Abort, alloc: Global, row: Row) {
 
 #[test]
 fn runs_by_steps(rt: HostRuntime) {
-    for row in ROWS {
-        two_runs(&rt, rt.alloc(), row);
+    for row in &ROWS {
+        two_runs(&rt, rt.alloc(), *row);
     }
 }
 

@@ -34,7 +34,7 @@ fn all_meet<R: Abort + Threads + Wait + Sync>(
 
 #[test]
 fn strands_at_once(rt: HostRuntime) {
-    for (text, workers, count, wanted) in ROWS {
-        all_meet(&rt, rt.alloc(), text, workers, count, wanted);
+    for row in &ROWS {
+        all_meet(&rt, rt.alloc(), row.0, row.1, row.2, row.3);
     }
 }
