@@ -3,6 +3,7 @@
 
 pub mod laid;
 pub mod laws;
+pub mod lists;
 pub mod pair;
 pub mod room;
 pub mod run;

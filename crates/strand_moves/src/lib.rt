@@ -4,6 +4,7 @@
 mod beginning;
 pub mod ending;
 pub mod joining;
+pub mod lists;
 pub mod moves;
 mod nesting;
 pub mod task;

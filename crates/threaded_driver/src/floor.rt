@@ -35,6 +35,7 @@ use positions::answer::RunAnswer;
 use positions::phase::{Paused, Phase};
 use rerun_records::records::Records;
 use right_strands::laid::Piece;
+use right_strands::lists::Lists;
 use right_strands::run::{Run, Scene};
 use right_strands::strand::RightStrand;
 use right_strands::task::RightTask;
@@ -71,8 +72,8 @@ pub struct PlainFloor {
 /// bell is for those without a strand.
 #[derive(Drop)]
 pub struct Floor<'a, J: Run + Ledger + Stocked + Send, D: Deques, V: View> {
-    alloc: Global,
-    scene: Scene<'a, J>,
+    pub(crate) alloc: Global,
+    pub(crate) scene: Scene<'a, J>,
     pub(crate) desk: CachePadded<Mutex<Desk<J, D, V>>>,
     gave_up: AtomicBool,
     pub(crate) is_alone: AtomicBool,
@@ -152,25 +153,28 @@ impl<J: Run + Ledger + Stocked + Send, D: Deques, V: View> Floor<'_, J, D, V> {
         found
     }
 
-    /// Goes on with a strand until there is nothing more to do with it, and lays it down.
+    /// Goes on with a strand until there is nothing more to do with it, and lays it down. Its lists stay with the worker.
     pub(crate) fn run_strand<R: Wait, G: Gate>(
         &self,
         rt: &R,
         number: usize,
         seat: &mut Seat<J, D>,
         held: Held<J, V>,
+        lists: &mut Lists,
         gate: &G,
     )
         requires bound { IsBoundTo seat.old.here (spot_of held.strand) }
         ensures fresh { seat.new.here ≡ None }
     {
         let (mut strand, share) = held.into_parts();
+        strand.take_lists(lists);
         let mut supply = Supply::new(rt, &self.desk, share, strand.kits());
         for _ in rt.forever() {
             if !self.step(rt, number, seat, &mut *strand, &mut supply, gate) {
                 break;
             }
         }
+        strand.leave_lists(lists);
         self.lay(rt, number, seat, strand, supply, gate);
     }
 

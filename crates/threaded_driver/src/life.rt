@@ -6,6 +6,7 @@ ghost use Rattle.threaded_driver.specs.Finds.{is_left, IsAt};
 use crate::floor::Floor;
 use crate::found::Found;
 use crate::gate::Gate;
+use right_strands::lists::Lists;
 use right_strands::run::Run;
 use std::sync::Wait;
 use std::sync::ledger::Ledger;
@@ -54,22 +55,25 @@ where
     ensures left { 0 < result.left }
 {
     let mut seat = seat;
-    match found {
+    let lists = match found {
         Found::Left => return seat,
-        Found::Nothing => {}
+        Found::Nothing => Lists::new(floor.alloc),
         Found::Own(held) | Found::Folded(held) | Found::Stolen(held) => {
-            floor.run_strand(rt, number, &mut seat, held, gate);
+            let mut lists = Lists::new(floor.alloc);
+            floor.run_strand(rt, number, &mut seat, held, &mut lists, gate);
+            lists
         }
-    }
-    seek(rt, floor, number, seat, gate)
+    };
+    seek(rt, floor, number, seat, lists, gate)
 }
 
-/// The life of a worker without a strand.
+/// The life of a worker without a strand, which has these lists for the next one.
 fn seek<J, D, V, R, G>(
     rt: &R,
     floor: &Floor<'_, J, D, V>,
     number: usize,
     seat: Seat<J, D>,
+    lists: Lists,
     gate: &G,
 ) -> Seat<J, D>
 where
@@ -82,6 +86,7 @@ where
     ensures left { 0 < result.left }
 {
     let mut seat = seat;
+    let mut lists = lists;
     let listener = floor.bell().listener();
     listener.listen();
     for _ in rt.forever() {
@@ -93,7 +98,7 @@ where
             Found::Nothing => listener.wait(rt),
             Found::Own(held) | Found::Folded(held) | Found::Stolen(held) => {
                 listener.leave();
-                floor.run_strand(rt, number, &mut seat, held, gate);
+                floor.run_strand(rt, number, &mut seat, held, &mut lists, gate);
                 listener.listen();
             }
         }
