@@ -18,6 +18,11 @@ use numbered_runs::ready::are_ready;
 use rerun_records::records::Records;
 use std::marker::{Brand, Model, PhantomData};
 
+/// In how many stretches, evenly spread, records are looked at to see whether many are stale, and how many in each.
+const STRETCHES: usize = 32;
+
+const LENGTH: usize = 16;
+
 /// Which program runs on which tables, with which records. Each call of a program picks it.
 pub trait Run {
     ghost use Rattle.positions.specs.Setting.{Setting};
@@ -80,4 +85,37 @@ impl<'a, J: Run> Scene<'a, J> {
             of: PhantomData,
         }
     }
+
+    /// Whether many records seem to be stale, by a look at some. Nothing rests on it.
+    #[inline(never)]
+    pub fn seems_stale(&self) -> bool {
+        let step = self.records.len() / STRETCHES;
+        step >= 2 * LENGTH && are_two_stale(self.records, step)
+    }
+}
+
+/// Whether two of the stretches have a stale record, which begin so far behind each other.
+fn are_two_stale(records: &Records, step: usize) -> bool {
+    let mut from = step / 2;
+    let mut is_second = false;
+    for _ in 0..STRETCHES {
+        if is_stale(records, from) {
+            if is_second {
+                return true;
+            }
+            is_second = true;
+        }
+        from = from.saturating_add(step);
+    }
+    false
+}
+
+/// Whether a record of the stretch from that place on is stale.
+fn is_stale(records: &Records, from: usize) -> bool {
+    for more in 0..LENGTH {
+        if !records.is_fresh(from.saturating_add(more)) {
+            return true;
+        }
+    }
+    false
 }

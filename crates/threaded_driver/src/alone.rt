@@ -22,9 +22,12 @@ use worker_seats::kits::{KitsOf, Stocked};
 use worker_seats::seat::Seat;
 use worker_seats::supply::Supply;
 
-/// In how many goes the first worker may end a run alone, before the others are started. To start them takes as long as some hundred
-/// small steps, and a run that records answer is over after fewer.
-const GOES: usize = 128;
+/// How many goes are one time that the first worker goes on alone, and how often it may before the others are started. To start them
+/// takes as long as some hundred small steps, and a run that records answer is over after fewer. Behind the first time it looks whether
+/// many records are stale: then the others are started at once.
+const GOES: usize = 16;
+
+const TIMES: usize = 8;
 
 impl<J: Run + Ledger + Stocked + Send, D: Deques, V: View> Floor<'_, J, D, V> {
     /// The first worker comes. Where records may answer the run it goes on for a while before the others are started, unless somebody
@@ -66,7 +69,7 @@ impl<J: Run + Ledger + Stocked + Send, D: Deques, V: View> Floor<'_, J, D, V> {
         let (mut strand, share) = held.into_parts();
         let mut supply = Supply::new(rt, &self.desk, share, strand.kits());
         self.is_alone.store(true, Ordering::Relaxed);
-        let goes_on = self.go_far(rt, number, seat, &mut *strand, &mut supply, gate);
+        let goes_on = self.go_on(rt, number, seat, &mut *strand, &mut supply, gate);
         self.is_alone.store(false, Ordering::Relaxed);
         if goes_on {
             let (share, _) = supply.end();
@@ -74,6 +77,35 @@ impl<J: Run + Ledger + Stocked + Send, D: Deques, V: View> Floor<'_, J, D, V> {
         }
         self.lay(rt, number, seat, strand, supply, gate);
         self.find(rt, number, seat, gate)
+    }
+
+    /// As many times as it may go on alone, or one where many records are stale. Whether the strand goes on.
+    fn go_on<R: Wait, G: Gate>(
+        &self,
+        rt: &R,
+        number: usize,
+        seat: &mut Seat<J, D>,
+        strand: &mut RightStrand<J, V>,
+        supply: &mut Supply<'_, Desk<J, D, V>, Kit<V>, KitsOf<J>, R>,
+        gate: &G,
+    ) -> bool
+        requires bound { IsBoundTo seat.old.here (spot_of strand.old.strand) }
+        requires kits { kits_of strand.old.strand + supply.old.free ≡ most }
+        ensures bound { result ≡ true → IsBoundTo seat.new.here (spot_of strand.new.strand) }
+        ensures kits { kits_of strand.new.strand + supply.new.free ≡ most }
+    {
+        if !self.go_far(rt, number, seat, strand, supply, gate) {
+            return false;
+        }
+        if self.scene.seems_stale() {
+            return true;
+        }
+        for _ in 1..TIMES {
+            if !self.go_far(rt, number, seat, strand, supply, gate) {
+                return false;
+            }
+        }
+        true
     }
 
     /// So many goes. Whether the strand goes on.
