@@ -1,17 +1,8 @@
 -- The first violation of lists joined.
-use Rattle.std.proofs.Common.{◌≡◌, ℕ, ◌<◌, lit<, List, [], ◌∷◌, ◌++◌, Option, Some, refl}
-use Rattle.monoid_laws.specs.declared.Kind.{Kind}
-use Rattle.monoid_laws.specs.declared.Kind.TheVariants as k
-use Rattle.monoid_laws.specs.Kinds.{arity}
+use Rattle.std.proofs.Common.{◌≡◌, ℕ, List, [], ◌∷◌, ◌++◌, Option, Some, refl}
 use Rattle.linked_program.specs.declared.violation.Rule.{Rule}
 use Rattle.linked_program.specs.declared.violation.Violation.{Violation}
 use Rattle.linked_program.specs.Violations.{noted, at, earlier}
-
-pub arity_some : (kind : Kind) → 0 < arity kind
-arity_some k.Argmax = lit< tt
-arity_some k.Affine = lit< tt
-arity_some k.Hist = lit< tt
-arity_some kind = lit< tt
 
 pub noted_append : (first : Option Violation) (vs ws : List Violation) → noted first (vs ++ ws) ≡ noted (noted first vs) ws
 noted_append first [] ws = refl

@@ -1,19 +1,19 @@
 //! The rules of reducers and of procedures' heads.
-ghost use Rattle.std.specs.Prelude.{◌≡◌, ◌∷◌, [], map, string_bytes, take};
-ghost use Rattle.monoid_laws.specs.declared.Kind.TheVariants as k;
-ghost use Rattle.monoid_laws.specs.Kinds.{names_element};
+ghost use Rattle.std.specs.Prelude.{◌≡◌, map, string_bytes, take};
 ghost use Rattle.meaning.specs.TreeView.{decl, red, proc};
-ghost use Rattle.linked_program.specs.Monoids.{says_monoid, is_monoid_kind};
-ghost use Rattle.linked_program.specs.Initials.{all_elements, are_elements, is_initial};
+ghost use Rattle.linked_program.specs.Monoids.{is_monoid_kind};
 ghost use Rattle.linked_program.specs.Declarations.{repeats, reducer_rules, main_rules, procedure_rules};
 ghost use Rattle.linked_program.specs.Violations.{noted, at};
 
 use crate::location::{Location, note_if};
-use crate::names::{arity, has_name, kind_of, parameters_of};
+use crate::names::{kind_of, parameters_of};
 use linked_program::violation::{Rule, Violation};
 use meaning::tree::{Declaration, Procedure, Reducer};
-use monoid_laws::{Kind, Table, TableAnswer};
+use monoid_laws::Kind;
 use reducer_values::check_table;
+use rule_parts::elements::{is_initial, says_monoid};
+use rule_parts::named::has_name;
+use rule_parts::procedures::is_recorded_main;
 
 // Whether a name is there twice.
 fn repeats(names: &[String]) -> bool
@@ -27,16 +27,6 @@ fn repeats(names: &[String]) -> bool
     false
 }
 
-// Whether the answer says so.
-fn says_monoid(answer: TableAnswer) -> bool
-    ensures { result ≡ says_monoid answer }
-{
-    match answer {
-        TableAnswer::Monoid => true,
-        TableAnswer::NotIdentity(_) | TableAnswer::NotAssociative(_, _, _) => false,
-    }
-}
-
 // Whether the kind's operation is a monoid.
 fn is_monoid(kind: &Kind) -> bool
     ensures { result ≡ is_monoid_kind kind.now }
@@ -45,42 +35,6 @@ fn is_monoid(kind: &Kind) -> bool
         Kind::Table(table) => says_monoid(check_table(table)),
         _ => true,
     }
-}
-
-fn is_element(table: &Table, number: i64) -> bool
-    ensures { result ≡ names_element (k.Table table.now) (number ∷ []) }
-{
-    number >= 0 && number < table.size as i64
-}
-
-// Whether each number is one of the table's elements.
-fn all_elements(table: &Table, numbers: &[i64]) -> bool
-    ensures { result ≡ all_elements table.now numbers.now }
-{
-    for number in numbers {
-        if !is_element(table, *number) {
-            return false;
-        }
-    }
-    true
-}
-
-// Whether each number is an element, where it is a table's kind.
-fn are_elements(kind: &Kind, numbers: &[i64]) -> bool
-    ensures { result ≡ are_elements kind.now numbers.now }
-{
-    match kind {
-        Kind::Table(table) => all_elements(table, numbers),
-        _ => true,
-    }
-}
-
-// Whether a reducer of that kind may begin with these numbers.
-#[tactic(auto, using(crate::proofs::Noting::arity_some))]
-fn is_initial(kind: &Kind, numbers: &[i64]) -> bool
-    ensures { result ≡ is_initial kind.now numbers.now }
-{
-    numbers.len() % arity(kind) == 0 && are_elements(kind, numbers)
 }
 
 /// The first violation so far or that of a reducer after these declarations.
@@ -108,8 +62,7 @@ fn note_main(
 ) -> Option<Violation>
     ensures { result ≡ noted first (at location.declaration location.line (main_rules (proc procedure.now))) }
 {
-    let broken = procedure.name.as_str() == "main" && (procedure.memo || procedure.parameters > 0);
-    note_if(first, broken, location, Rule::Main)
+    note_if(first, is_recorded_main(procedure), location, Rule::Main)
 }
 
 // Whether a name is that of two parameters.

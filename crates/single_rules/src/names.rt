@@ -1,11 +1,10 @@
 //! Declarations, tables and columns by their names.
-ghost use Rattle.std.specs.Prelude.{◌≡◌, map, option_map, option_copied, string_bytes};
+ghost use Rattle.std.specs.Prelude.{◌≡◌, map, option_map, option_copied};
 ghost use Rattle.meaning.specs.TreeView.{decl, proc};
-ghost use Rattle.monoid_laws.specs.Kinds.{arity};
 ghost use Rattle.meaning.specs.Statements.{procedure_of};
 ghost use Rattle.linked_program.specs.Rules.{kind_of};
 ghost use Rattle.linked_program.specs.Monoids.{is_readable};
-ghost use Rattle.linked_program.specs.TableNames.{columned, table_of, has_name};
+ghost use Rattle.linked_program.specs.TableNames.{columned, table_of};
 
 use linked_program::tables::TableNames;
 use meaning::tree::{Declaration, Procedure};
@@ -51,16 +50,6 @@ pub fn kind_of<'a>(declarations: &'a [Declaration], name: &str) -> Option<&'a Ki
     None
 }
 
-/// How many values an update of a reducer of that kind takes.
-pub fn arity(kind: &Kind) -> usize
-    ensures { result ≡ arity kind.now }
-{
-    match kind {
-        Kind::Argmax | Kind::Affine | Kind::Hist => 2,
-        _ => 1,
-    }
-}
-
 /// Whether a program can read reducers of that kind.
 pub fn is_readable(kind: &Kind) -> bool
     ensures { result ≡ is_readable kind.now }
@@ -83,16 +72,4 @@ pub fn table_of<'a>(tables: &'a [TableNames], name: &str) -> Option<&'a TableNam
         }
     }
     None
-}
-
-/// Whether a name is among these.
-pub fn has_name(names: &[String], name: &str) -> bool
-    ensures { result ≡ has_name (map string_bytes names.now) name.now }
-{
-    for other in names {
-        if other.as_str() == name {
-            return true;
-        }
-    }
-    false
 }

@@ -1,6 +1,6 @@
 //! What is known of a procedure's variables at a statement.
 ghost use Rattle.std.specs.Prelude.{◌≡◌, slice_get, IfOk};
-ghost use Rattle.linked_program.specs.Scope.{scope_of, told, bound, after_spawn, has_read, passed, forgotten, returned, joined, precedes};
+ghost use Rattle.linked_program.specs.Scope.{scope_of, told, bound, after_spawn, has_read, passed, forgotten, returned, joined};
 ghost use Rattle.linked_program.specs.Scope.{is_known, is_bound, is_of};
 ghost use Rattle.linked_program.specs.Rules.{use_rules};
 ghost use Rattle.linked_program.specs.declared.knowledge.Knowledge.TheVariants.{Ended};
@@ -9,6 +9,7 @@ ghost use Rattle.linked_program.specs.Violations.{noted, at};
 use crate::location::{Location, note, note_if};
 use linked_program::knowledge::{Knowledge, Moment};
 use linked_program::violation::{Rule, Violation};
+use rule_parts::known;
 use std::alloc::{AllocError, Global};
 use std::marker::Model;
 
@@ -27,13 +28,6 @@ impl Model for Scope {
     ghost Value = { PlainScope };
 
     ghost view = { λ s. record { names = s.names.items; synced = s.synced; spawned = s.spawned; read = s.read } };
-}
-
-/// Whether the first moment is the earlier one.
-fn precedes(first: Moment, second: Moment) -> bool
-    ensures { result ≡ precedes first second }
-{
-    first.depth < second.depth || (first.depth == second.depth && first.place < second.place)
 }
 
 impl Scope {
@@ -92,20 +86,14 @@ impl Scope {
     pub fn is_bound(&self, name: usize) -> bool
         ensures bound { result ≡ is_bound (slice_get self.now.names name) }
     {
-        match self.names.get(name) {
-            None | Some(Knowledge::Unbound) => false,
-            Some(_) => true,
-        }
+        known::is_bound(&self.names, name)
     }
 
     // Whether the name was bound in the block of that depth, and is known.
     fn is_of(&self, depth: usize, name: usize) -> bool
         ensures { result ≡ is_of depth (slice_get self.now.names name) }
     {
-        match self.names.get(name) {
-            Some(Knowledge::Known { since, .. }) => since.depth == depth,
-            _ => false,
-        }
+        known::is_of(&self.names, depth, name)
     }
 
     /// The first violation so far or that of the name's use in an expression.
@@ -120,7 +108,7 @@ impl Scope {
     {
         match self.names.get(name) {
             Some(Knowledge::Known { since, spawned }) => {
-                let waits = *spawned && precedes(self.synced, *since);
+                let waits = known::waits(*spawned, self.synced, *since);
                 note_if(first, waits, location, Rule::Waiting)
             }
             _ => note(first, location, Rule::Unknown),
@@ -169,7 +157,7 @@ impl Scope {
         ensures synced { self.new ≡ passed now self.old }
     {
         self.synced = now;
-        self.spawned = self.spawned && now.depth > 0;
+        self.spawned = known::stays_spawned(self.spawned, now);
     }
 
     /// A reducer was read.
@@ -190,7 +178,7 @@ impl Scope {
     pub fn join(&mut self, now: Moment, before: Moment, first: Moment)
         ensures joined { self.new ≡ joined now before first self.old }
     {
-        if precedes(before, first) && precedes(before, self.synced) {
+        if known::precedes(before, first) && known::precedes(before, self.synced) {
             self.synced = now;
         } else {
             self.synced = before;

@@ -11,7 +11,7 @@ ghost use Rattle.single_rules.specs.Settings.{plain};
 ghost use Rattle.single_rules.specs.Own.{after_own};
 
 use crate::location::{Location, note, note_if};
-use crate::names::{arity, is_readable, kind_of, parameters_of};
+use crate::names::{is_readable, kind_of, parameters_of};
 use crate::scope::Scope;
 use crate::setting::Setting;
 use crate::terms::{note_term, note_terms};
@@ -20,6 +20,7 @@ use linked_program::tables::TableNames;
 use linked_program::violation::{Rule, Violation};
 use meaning::tree::{Action, Declaration, Expr, Way};
 use monoid_laws::Kind;
+use rule_parts::counts::{are_others, takes_others};
 
 // The first violation so far or that of binding a name.
 fn note_bind(
@@ -59,7 +60,12 @@ fn note_callee(
 {
     match parameters {
         None => note(first, location, Rule::Unknown),
-        Some(parameters) => note_if(first, parameters != count, location, Rule::Arguments),
+        Some(parameters) => note_if(
+            first,
+            are_others(parameters, count),
+            location,
+            Rule::Arguments,
+        ),
     }
 }
 
@@ -89,7 +95,7 @@ fn note_update(
 {
     match kind {
         None => note(first, location, Rule::Update),
-        Some(kind) => note_if(first, arity(kind) != count, location, Rule::Update),
+        Some(kind) => note_if(first, takes_others(kind, count), location, Rule::Update),
     }
 }
 

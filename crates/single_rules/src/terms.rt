@@ -6,11 +6,12 @@ ghost use Rattle.linked_program.specs.Rules.{term_rules, terms_rules, table_rule
 ghost use Rattle.linked_program.specs.Violations.{noted, at};
 
 use crate::location::{Location, note, note_if};
-use crate::names::{has_name, table_of};
+use crate::names::table_of;
 use crate::scope::Scope;
 use linked_program::tables::TableNames;
 use linked_program::violation::{Rule, Violation};
 use meaning::tree::Expr;
+use rule_parts::named::lacks_column;
 
 // The first violation so far or that of the use of a table.
 fn note_table(
@@ -37,12 +38,7 @@ fn note_column(
 {
     match table {
         None => note(first, location, Rule::Table),
-        Some(table) => note_if(
-            first,
-            !has_name(&table.columns, column),
-            location,
-            Rule::Table,
-        ),
+        Some(table) => note_if(first, lacks_column(table, column), location, Rule::Table),
     }
 }
 

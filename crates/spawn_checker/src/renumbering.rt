@@ -7,7 +7,8 @@ ghost use Rattle.linked_program.specs.Checked.{revised_of, numbers_in};
 use crate::revisions::{Numbers, put_revision};
 use linked_program::checked::Checked;
 use meaning::tree::{Declaration, Procedure};
-use single_rules::keeping::{is_last_number, kept_revision};
+use rule_parts::procedures::is_last_number;
+use single_rules::keeping::kept_revision;
 use std::alloc::{AllocError, Global};
 
 /// The revision numbers of declarations' procedures in the place of a program; none where a new one would not fit.
