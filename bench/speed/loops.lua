@@ -1,10 +1,23 @@
 -- What the reports of run.sh answer, in Lua 5.4: so many times the same run.
--- usage: loops.lua lines|iterations|calls SIZE RUNS
+-- usage: loops.lua lines|records|iterations|calls SIZE RUNS
 
 local function lines(rows)
   local total, best, best_row = 0, nil, nil
   for number, row in ipairs(rows) do
     local value = row.qty * row.price
+    total = total + value
+    if not best or value > best then best, best_row = value, number end
+  end
+  return string.format("result %d\ntotal %d\ntop %d %d", total, total, best, best_row)
+end
+
+-- The same, where what each row read and gave is kept.
+local function records(rows)
+  local total, best, best_row, kept = 0, nil, nil, {}
+  for number, row in ipairs(rows) do
+    local qty, price = row.qty, row.price
+    local value = qty * price
+    kept[number] = { value = value, qty = qty, price = price, total = value, top = value, row = number }
     total = total + value
     if not best or value > best then best, best_row = value, number end
   end
@@ -32,9 +45,9 @@ end
 local function calls(n) return string.format("result %d", fib(n)) end
 
 local name, size, runs = arg[1], tonumber(arg[2]), tonumber(arg[3])
-local run = ({ lines = lines, iterations = iterations, calls = calls })[name]
+local run = ({ lines = lines, records = records, iterations = iterations, calls = calls })[name]
 local input = size
-if name == "lines" then
+if name == "lines" or name == "records" then
   input = {}
   for number = 1, size do input[number] = { qty = number, price = 7 } end
 end

@@ -1,8 +1,9 @@
 #!/usr/bin/env bash
 # Prints what runs of light reports cost by one worker, as a table: the instructions of a row, an iteration or a call (callgrind), and
 # the nanoseconds of a processor (the least of fifteen sessions), each that of a session with one run less that of the session without.
-# Beside the program stand a loop in Rust without a runtime, and Lua 5.4 where `lua5.4` is on the path. Then what a spawn with its sync
-# costs in calls, and for each report the twenty functions with most instructions. The answers are compared. Takes valgrind, rustc, python3.
+# Beside the program stand a loop in Rust without a runtime, and Lua 5.4 where `lua5.4` is on the path, which keeps a table a row where
+# the program makes a record. Then what a spawn with its sync costs in calls, and for each report the twenty functions with most
+# instructions. The answers are compared. Takes valgrind, rustc, python3.
 #
 # usage: run.sh [PROGRAM] [ROWS ..]      by default ./cilkreport as it is built, and 100000 1000000 rows
 set -eu
@@ -20,6 +21,7 @@ iterations=1000000 # of the loop without a table
 fib=24
 calls=150049 # that fib(24) makes, itself among them
 few=20 many=200 # runs of a session of Lua and of Rust, since one takes too little time to be read
+kept=2 # of one of Lua that keeps a table for each row
 : > "$room/nothing"
 echo run > "$room/once"
 yes run | head -n $many > "$room/many" || true
@@ -61,10 +63,18 @@ rust_words() { # the case, how many runs, `once` at most
 
 lua_words() {
     case $1 in
+        records.*) words=("$has_lua" "$here/loops.lua" records "${size[$1]}" "$2") ;;
         lines.*) words=("$has_lua" "$here/loops.lua" lines "${size[$1]}" "$2") ;;
         iterations) words=("$has_lua" "$here/loops.lua" iterations $iterations "$2") ;;
         calls) words=("$has_lua" "$here/loops.lua" calls $fib "$2") ;;
         *) return 1 ;;
+    esac
+}
+
+lua_runs() { # the case
+    case $1 in
+        records.*) echo $kept ;;
+        *) echo $few ;;
     esac
 }
 
@@ -115,7 +125,7 @@ commands() {
         if rust_words "$name" $many; then command_of "rust.$name.run" many "${words[@]}"; fi
         if [ -z "$has_lua" ]; then continue; fi
         if lua_words "$name" 0; then command_of "lua.$name.begun" nothing "${words[@]}"; fi
-        if lua_words "$name" $few; then command_of "lua.$name.run" nothing "${words[@]}"; fi
+        if lua_words "$name" "$(lua_runs "$name")"; then command_of "lua.$name.run" nothing "${words[@]}"; fi
     done
 }
 
@@ -146,7 +156,7 @@ for name in "${cases[@]}"; do
     units=${size[$name]}
     line="| ${title[${name%%.*}]} | $units | $(a_unit "${counted[$name]}" "$units") | $(nanoseconds "$name" 1 "$units")"
     line+=" | $(a_unit "${counted[rust.$name]:-}" "$units") | $(nanoseconds "rust.$name" $many "$units") |"
-    if [ -n "$has_lua" ]; then line+=" $(a_unit "${counted[lua.$name]:-}" "$units") | $(nanoseconds "lua.$name" $few "$units") |"; fi
+    if [ -n "$has_lua" ]; then line+=" $(a_unit "${counted[lua.$name]:-}" "$units") | $(nanoseconds "lua.$name" "$(lua_runs "$name")" "$units") |"; fi
     echo "$line"
 done
 echo
