@@ -1,13 +1,9 @@
 -- Chains of places, as one more place is linked and as one is looked for.
-use Rattle.std.proofs.Common.{◌≡◌, ◌≢◌, inl, inr, ℕ, suc, ◌+◌, ◌-◌, ◌*◌, ◌/◌, ◌<◌, ◌≤◌, List, [], ◌∷◌, ◌++◌, length, replicate, get_or, refl, sym, ap, ◌∙◌, subst, arith}
+use Rattle.std.proofs.Common.{◌≡◌, ◌≢◌, inl, inr, ℕ, suc, ◌+◌, ◌-◌, ◌<◌, ◌≤◌, List, [], ◌∷◌, ◌++◌, length, replicate, get_or, refl, sym, ap, ◌∙◌, subst, arith}
 use Rattle.std.specs.Prelude.{slice_set}
 use Rattle.std.proofs.lemmas.Bool.{cases_eq, cases_lt}
 use Rattle.std.proofs.lemmas.List.{get_or_append_left, get_or_push, get_or-replicate, get_or-set_same, get_or-set_other, length-replicate, length-set}
 use Rattle.place_chains.specs.Chains.{IsEnd, IsEndOf, chain_of, AreChained, IsInChain}
-
-pub chain_is : (chains number : ℕ) → number * chains / 4294967296 ≡ chain_of chains number
-unfolding chain_of
-chain_is chains number = refl
 
 -- ---- one more place
 

@@ -1,5 +1,5 @@
 -- Places under numbers, and the chains that they are found in.
-use Rattle.std.specs.Prelude.{◌≡◌, ◌≤◌, ◌<◌, ◌-◌, ◌*◌, ◌/◌, ℕ, List, length, slice_index}
+use Rattle.std.specs.Prelude.{◌≡◌, ◌≤◌, ◌<◌, ◌+◌, ◌-◌, ◌*◌, ◌/◌, ◌%◌, ℕ, nat_lt, cond, List, length, slice_index}
 
 -- the number of each place in order, and how many places there is room for
 pub record PlainPlaces : Type 0 where
@@ -19,9 +19,9 @@ itself n = n
 abbrev pub IsEndOf : List ℕ → ℕ → ℕ → ℕ → Type 0
 IsEndOf numbers first number end = IsEnd itself numbers first number end
 
--- which of so many chains a number's places are in
+-- which of so many chains a number's places are in; those of numbers that differ by their last digit of sixteen lie side by side
 unfoldable pub chain_of : ℕ → ℕ → ℕ
-chain_of chains number = number * chains / 4294967296
+chain_of chains number = cond (nat_lt chains 16) (number % chains) (number / 16 * (chains - 15) / 268435456 + number % 16)
 
 -- each chain's end, and for each place the end of what is before it in its chain
 pub record AreChained (numbers befores ends : List ℕ) : Type 0 where

@@ -4,14 +4,23 @@ ghost use Rattle.place_chains.specs.Chains.{chain_of, AreChained, IsInChain, IsE
 
 use std::alloc::AllocError;
 
-/// Which of so many chains a number's places are in: the upper digits of a number say it.
+/// Numbers that differ by no more than their last digit of so many are in chains side by side.
+const GROUP: usize = 16;
+
+/// Which of so many chains a number's places are in: its upper digits say where a group of chains begins, and its last digit of
+/// sixteen which of these it is. So the ends of chains of one group's numbers lie in one or two lines of the processor's memory.
+#[tactic(auto, unfolding(crate::specs::Chains::chain_of))]
 pub(crate) fn chain_of(number: u32, chains: usize) -> usize
     requires some { 0 < chains }
     requires few { chains ≤ 4294967295 }
     ensures chain { result ≡ chain_of chains number }
     ensures within { result < chains }
 {
-    (number as u64 * chains as u64 / 4294967296) as usize
+    if chains < GROUP {
+        return number as usize % chains;
+    }
+    let first = (number / 16) as u64 * (chains as u64 - 15) / 268435456;
+    first as usize + (number % 16) as usize
 }
 
 /// Puts one more place behind the others, at the end of its number's chain.
