@@ -1,6 +1,6 @@
 -- Which record is found, and whether it is valid.
 use Rattle.std.proofs.Common.{◌≡◌, ℕ, zero, suc, ℤ, Bool, true, false, cond, List, [], ◌∷◌, length, map, Option, Some, None, refl, sym, ap, ◌∙◌, subst, get_or}
-use Rattle.std.specs.Prelude.{◌&&◌, nat_eq, slice_get, option_map}
+use Rattle.std.specs.Prelude.{◌&&◌, slice_get, option_map}
 use Rattle.std.proofs.lemmas.Option.{get_or_from_slice_get}
 use Rattle.std.specs.List.{find, IsDistinct}
 use Rattle.meaning.specs.Tables.{Tables}

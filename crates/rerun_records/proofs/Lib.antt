@@ -10,4 +10,4 @@ pub mod Wholes
 pub mod Instances
 pub mod Moving
 pub mod Crosses
-pub mod Spots
+pub mod Settled

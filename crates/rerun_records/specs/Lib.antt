@@ -2,4 +2,4 @@ pub mod Put
 pub mod Blocks
 pub mod Covers
 pub mod Skips
-pub mod Spots
+pub mod Settled

@@ -72,7 +72,7 @@ impl Covers {
     }
 
     // From which place on, up to that end, no record has read what the change may have changed, or that end: by the hull of an instance that
-    // ends there, or else by the widest of a level, where none of an instance ends soon before.
+    // ends there, or else by the widest of a level.
     #[inline(always)]
     fn apart_to(&self, end: usize, change: &(usize, i64), cursor: &mut Cursor) -> usize
         ensures within { result ≤ end }
@@ -80,15 +80,37 @@ impl Covers {
             → AreApart records change.now result end }
     {
         let first = self.skips.apart_to(end, change, cursor);
-        if first < end || end % NARROW != 0 {
+        if end % NARROW != 0 || end - first >= NARROW {
             return first;
         }
-        if !self.skips.are_far(end, cursor) {
-            return end;
+        self.apart_by_place(first, end, change, cursor)
+    }
+
+    // The same, where the hull of an instance leads to that place at most: several of these one behind another are passed at once.
+    #[inline(always)]
+    fn apart_by_place(
+        &self,
+        first: usize,
+        end: usize,
+        change: &(usize, i64),
+        cursor: &mut Cursor,
+    ) -> usize
+        requires within { first ≤ end }
+        requires apart { (records : List PlainRecord) → AreCovered records self.now
+            → AreApart records change.now first end }
+        ensures within { result ≤ end }
+        ensures apart { (records : List PlainRecord) → AreCovered records self.now
+            → AreApart records change.now result end }
+    {
+        if first == end && !self.skips.are_far(end, cursor) {
+            return first;
         }
-        let first = self.apart_by_hull(end, change);
-        self.skips.move_to(first, end, cursor);
-        first
+        let wider = self.apart_by_hull(end, change);
+        if wider >= first {
+            return first;
+        }
+        self.skips.move_to(wider, end, cursor);
+        wider
     }
 
     // From which place on, up to that end, no record has read what the change may have changed, by the widest hull that ends there.

@@ -11,6 +11,6 @@ mod level;
 mod listing;
 pub mod records;
 pub mod series;
+mod settling;
 mod skips;
-mod spot;
 mod telling;

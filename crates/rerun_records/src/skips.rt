@@ -17,7 +17,7 @@ use std::marker::Model;
 use std::slice;
 
 /// So many records before the last one have a hull with it, and no fewer: each by itself is asked as quickly.
-const LEAST: usize = 8;
+const LEAST: usize = 5;
 
 /// Hulls by places aren't asked where one of an instance ends so soon before.
 const NEAR: usize = 32;

@@ -1,5 +1,4 @@
-use Rattle.std.proofs.Common.{arith, refl, [], take}
-use Rattle.std.proofs.lemmas.List.{length-take-le}
+use Rattle.std.proofs.Common.{arith, refl, []}
 use Rattle.rerun_records.proofs.WithNumbers.{none_numbers}
 use Rattle.rerun_records.proofs.keeping.keep_each.Goals as goal
 

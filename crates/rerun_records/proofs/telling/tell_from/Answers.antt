@@ -1,9 +1,7 @@
 use Rattle.std.proofs.Common.{rules, ◌≡◌, ◌≤◌, ◌<◌, ◌+◌, ℕ, suc, List, None, IfNone, length, length-set, sym, ◌∙◌, ap, get_or, subst, arith}
-use Rattle.record_theory.specs.Counts.{how_many}
 use Rattle.rerun_records.specs.Covers.{AreApart}
-use Rattle.record_numbers.specs.Stale.{most_number, number_by}
+use Rattle.record_numbers.specs.Stale.{most_number}
 use Rattle.record_theory.specs.Numbers.{number_then}
-use Rattle.record_theory.specs.Same.{same_note}
 use Rattle.rerun_records.proofs.NumbersAt.{told_to, told_all, told_one, told_apart, small_set}
 use Rattle.rerun_records.proofs.telling.tell_from.Goals as goal
 
@@ -14,7 +12,7 @@ loop-place-init c =
     let place = c.args.place in
     let lost = c.args.edit.lost.now in
     let won = c.args.edit.won.now in
-    let number = c.number_after-number.result in
+    let number = c.told_anew-number.result in
     let there : place < length list = c.requires.within in
     let many = c.requires.places in
     let has_number : place < length numbers = omega (arith, there, many) in
@@ -22,12 +20,7 @@ loop-place-init c =
     let small : number ≤ most_number = search rules in
     let next : place + 1 ≡ suc place = omega arith in
     let numbered = c.renumber.ensures.numbered in
-    let counts = c.first_counts-known in
-    let is_then : number ≡ number_then lost won (get_or numbers place 0) c.index-list-place.result.reads =
-    c.number_after-number.ensures.after
-    ∙ ap (λ (m : ℕ). number_by (get_or numbers place 0) m counts.result.fewer) counts.ensures.more
-    ∙ ap (λ (m : ℕ). number_by (get_or numbers place 0) (how_many same_note lost c.reads-reads.result.now) m) counts.ensures.fewer
-    ∙ ap (number_then lost won (get_or numbers place 0)) c.reads-reads.ensures.reads in
+    let is_then : number ≡ number_then lost won (get_or numbers place 0) c.index-list-place.result.reads = c.told_anew-number.ensures.told ∙ ap (number_then lost won (get_or numbers place 0)) c.reads-reads.ensures.reads in
     record {
       within = omega (arith, there);
       places = ap length numbered ∙ length-set numbers place number ∙ many;
@@ -38,6 +31,7 @@ loop-place-init c =
           ∙ told_apart c.args.edit.change.now lost won (place + 1) (length list) numbers list c.requires.rest before (omega (arith, there)) c.requires.apart
           ∙ told_all lost won numbers list many;
       fit = c.renumber.ensures.fit;
+      settled = c.told_anew-number.ensures.settled;
     }
 
 pub loop-place-preserved : goal.loop-place-preserved
@@ -65,6 +59,7 @@ loop-place-preserved c =
           ∙ told_apart c.args.edit.change.now c.args.edit.lost.now c.args.edit.won.now (place + 1) l.end l.numbers list c.requires.rest l.invariant.small (omega (arith, before)) c.in-Some.ensures.apart
           ∙ l.invariant.told;
       fit = c.renumber-in-Some.ensures.fit;
+      settled = c.told_by_way-number.ensures.settled;
     }
 
 pub returns : goal.returns

@@ -1,5 +1,7 @@
-use Rattle.std.proofs.Common.{◌≡◌, ◌≤◌, ℕ, length, get_or}
+use Rattle.std.proofs.Common.{◌≡◌, ◌≤◌, ℕ, IfSome, length, map, get_or}
+use Rattle.evaluation.specs.Short.{note_of}
 use Rattle.rerun_records.specs.Blocks.{BlocksFit}
+use Rattle.rerun_records.specs.Settled.{Settles}
 use Rattle.record_numbers.specs.Stale.{most_number}
 use Rattle.record_theory.specs.Numbers.{numbers_then, with_numbers}
 use Rattle.rerun_records.proofs.NumbersAt.{told_to}
@@ -12,6 +14,7 @@ invariant-loop-place l = record {
   small : (i : ℕ) → get_or l.numbers i 0 ≤ most_number;
   told : told_to l.edit.lost.now l.edit.won.now l.end l.numbers l.list ≡ numbers_then l.edit.lost.now l.edit.won.now l.fn.numbers l.list;
   fit : BlocksFit (with_numbers l.numbers l.list) l.blocks;
+  settled : IfSome l.course.settled (λ s. Settles (map note_of s.cells.now) s.more l.edit.lost.now × Settles (map note_of s.cells.now) s.fewer l.edit.won.now);
 }
 
 abbrev pub decreases-loop-place : goal.decreases-loop-place

@@ -5,7 +5,7 @@ use Rattle.record_theory.specs.Commits.{AreSingle, put_records}
 use Rattle.rerun_records.specs.Covers.{AreCovered}
 use Rattle.record_theory.specs.InStep.{IsInStep, ReadNow}
 use Rattle.record_theory.specs.Numbers.{with_numbers}
-use Rattle.record_theory.specs.OneTime.{AreOfOneTime, IsOfOneTime}
+use Rattle.record_theory.specs.OneTime.{IsOfOneTime}
 use Rattle.record_theory.specs.Record.{PlainRecord, as_made, instance_number}
 use Rattle.rerun_records.proofs.Leaves.{none_fit}
 use Rattle.rerun_records.proofs.OneTime.{first_once}
