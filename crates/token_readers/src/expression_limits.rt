@@ -3,11 +3,10 @@
 ghost use Rattle.std.specs.Prelude.{◌≡◌, ◌≤◌, ◌-◌, ◌<◌};
 ghost use Rattle.token_readers.specs.Limits.{most_open, most_levels};
 
+use plain_rules::limits as plain_limits;
+
 /// How many parentheses and brackets may be open at once in an expression.
 const MOST_OPEN: usize = 64;
-
-/// How many levels an expression has at most.
-const MOST_LEVELS: usize = 64;
 
 /// How far an expression may still go: how many more parentheses and brackets may be open, and how many levels there is room for.
 #[derive(Clone, Copy)]
@@ -27,7 +26,7 @@ impl Limits {
     {
         Limits {
             more: MOST_OPEN,
-            room: MOST_LEVELS,
+            room: plain_limits::most_levels(),
         }
     }
 

@@ -4,6 +4,7 @@ ghost use Rattle.std.specs.Prelude.{◌≡◌};
 ghost use Rattle.token_readers.specs.declared.fault.ParseError.TheVariants.{Memory};
 ghost use Rattle.token_readers.specs.declared.fault.TextError.TheVariants.{NoMemory, Text};
 
+use plain_rules::limits::line_of_too_long;
 use std::alloc::{AllocError, AllocFailed};
 use thiserror::Error;
 
@@ -22,7 +23,9 @@ impl TextError {
     pub fn too_long() -> TextError
         ensures { result ≡ Text 0 }
     {
-        TextError::Text { line: 0 }
+        TextError::Text {
+            line: line_of_too_long(),
+        }
     }
 }
 

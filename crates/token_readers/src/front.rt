@@ -6,6 +6,7 @@ ghost use Rattle.token_readers.specs.Reading.{Gives, name_at, mark_at, within_of
 
 use crate::fault::ParseError;
 use meaning::tree::{Operator, Way};
+use plain_rules::limits::is_within;
 use std::alloc::Global;
 use token_scanner::{Mark, Placed, Token, same};
 
@@ -102,7 +103,13 @@ fn within_of(low: u64, high: u64, tokens: &[Placed]) -> Option<u64>
     ensures within { IfSome result (λ n. (low ≤ n) × (n ≤ high)) }
 {
     match front_count(tokens) {
-        Some(n) => { if low <= n && n <= high { Some(n) } else { None } }
+        Some(n) => {
+            if is_within(low, high, n) {
+                Some(n)
+            } else {
+                None
+            }
+        }
         None => None,
     }
 }

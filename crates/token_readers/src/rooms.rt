@@ -9,6 +9,7 @@ ghost use Rattle.token_readers.specs.Seen as seen;
 
 use crate::bounds::MOST_PROCEDURES;
 use meaning::tree::{Declaration, Program};
+use plain_rules::limits::left_of;
 use std::alloc::{AllocError, Global};
 
 /// The names of the procedures that may still be replaced, and how many new ones may come.
@@ -72,7 +73,7 @@ pub fn room_of(alloc: Global, program: &Program) -> Result<Room, AllocError>
     ensures { IfOk result (λ r. seen.room r ≡ room_of (tree program.now)) }
 {
     let known = names_of(alloc, &program.declarations)?;
-    let left = MOST_PROCEDURES.saturating_sub(procedures_in(&program.declarations)) as u32;
+    let left = left_of(MOST_PROCEDURES, procedures_in(&program.declarations)) as u32;
     Ok(Room { known, left })
 }
 
