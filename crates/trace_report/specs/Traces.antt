@@ -1,27 +1,15 @@
 -- The text of a run's history and of what is counted of it.
 use Rattle.std.specs.Prelude.{ℕ, suc, List, [], ◌∷◌, ◌++◌, Option, Some, None, flat_map, codes}
 use Rattle.std.specs.Fmt.{decimal}
+use Rattle.plain_rules.specs.TraceLines.{place_text, places_text, executed_text}
 use Rattle.meaning.specs.Outcome.{Place}
 use Rattle.meaning.specs.Strands.{BookStep, Split, End, Stall, Fault, Finish, Fold}
 use Rattle.meaning.specs.Text.{run_line}
 use Rattle.trace_report.specs.declared.trace.RunCounts.{RunCounts}
 
--- a number of a place, behind another
-abbrev pub dotted : ℕ → List ℕ
-dotted n = 46 ∷ decimal n
-
-abbrev pub place_text : Place → List ℕ
-place_text [] = codes "root"
-place_text (n ∷ place) = decimal n ++ flat_map dotted place
-
 -- the line of a strand that was laid down
 abbrev pub laid_text : List ℕ → Place → List ℕ
 laid_text word place = word ++ codes " " ++ place_text place ++ codes "\n"
-
--- the line of what a worker did with two places
-abbrev pub places_text : List ℕ → Place → Place → ℕ → List ℕ
-places_text word left right worker =
-    word ++ codes " " ++ place_text left ++ codes " " ++ place_text right ++ codes " by " ++ decimal worker ++ codes "\n"
 
 abbrev pub step_text : BookStep → List ℕ
 step_text (Split victim new thief) = places_text (codes "split") victim new thief
@@ -53,7 +41,7 @@ folds_in (_ ∷ steps) = folds_in steps
 
 -- memo instances: those that were executed, those that a record answered, those that went without one
 abbrev pub instances_text : RunCounts → List ℕ
-instances_text c = codes " executed " ++ decimal c.executed ++ codes " reused " ++ decimal c.reused ++ codes " unrecorded " ++ decimal c.unrecorded
+instances_text c = executed_text c.executed c.reused c.unrecorded
 
 abbrev pub moves_text : RunCounts → List ℕ
 moves_text c = codes " steals " ++ decimal c.steals ++ codes " folds " ++ decimal c.folds

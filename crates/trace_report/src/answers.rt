@@ -13,6 +13,7 @@ use linked_program::checked::Checked;
 use meaning::FaultKind;
 use meaning::tree::{Declaration, Program, Reducer};
 use monoid_laws::Val;
+use plain_rules::trace_lines::place_behind;
 use positions::answer::RunAnswer;
 use positions::phase::Fault;
 use std::alloc::{AllocError, Global};
@@ -159,7 +160,7 @@ fn push_declared(
             None => Ok(at),
             Some(value) => {
                 push_reducer(alloc, text, reducer, value)?;
-                Ok(at + 1)
+                Ok(place_behind(values, at))
             }
         },
     }

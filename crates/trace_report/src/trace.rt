@@ -1,12 +1,13 @@
 // The text of a run's history and of what is counted of it.
-ghost use Rattle.std.specs.Prelude.{◌≡◌, IfOk, OnOk, flat_map, string_bytes};
+ghost use Rattle.std.specs.Prelude.{◌≡◌, IfOk, OnOk, string_bytes};
 ghost use Rattle.numbered_runs.specs.Named.{book_step, history as steps_of};
 ghost use Rattle.trace_report.specs.Outcomes.{Extends};
-ghost use Rattle.trace_report.specs.Traces.{dotted, place_text, laid_text, places_text, step_text, history_text, trace_text, splits_in};
+ghost use Rattle.trace_report.specs.Traces.{laid_text, step_text, history_text, trace_text, splits_in};
 ghost use Rattle.trace_report.specs.Traces.{folds_in, instances_text, moves_text, kits_text, counts_text, no_counts_text, stats_text};
 
 use crate::answers::push_run;
 use numbered_runs::step::BookStep;
+use plain_rules::trace_lines::{push_executed, push_place, push_places};
 use std::alloc::{AllocError, Global};
 use std::fmt::Write;
 
@@ -28,29 +29,6 @@ pub struct RunCounts {
     pub kits: usize,
 }
 
-// Puts the numbers of a place behind the first at the end of the text.
-fn push_dotted(text: &mut String, numbers: &[usize]) -> Result<(), AllocError>
-    ensures { OnOk result (Extends text.old text.new (flat_map dotted numbers.now)) }
-{
-    for number in numbers {
-        write!(text, ".{number}")?;
-    }
-    Ok(())
-}
-
-// Puts a place at the end of the text.
-fn push_place(text: &mut String, place: &[usize]) -> Result<(), AllocError>
-    ensures { OnOk result (Extends text.old text.new (place_text place.now)) }
-{
-    match place {
-        [] => write!(text, "root"),
-        [first, rest @ ..] => {
-            write!(text, "{first}")?;
-            push_dotted(text, rest)
-        }
-    }
-}
-
 // Puts what was laid down, and where, at the end of the text.
 fn push_laid(text: &mut String, word: &str, place: &[usize]) -> Result<(), AllocError>
     ensures { OnOk result (Extends text.old text.new (laid_text word.now place.now)) }
@@ -58,23 +36,6 @@ fn push_laid(text: &mut String, word: &str, place: &[usize]) -> Result<(), Alloc
     write!(text, "{word} ")?;
     push_place(text, place)?;
     writeln!(text)
-}
-
-// Puts what a worker did with two places at the end of the text.
-fn push_places(
-    text: &mut String,
-    word: &str,
-    left: &[usize],
-    right: &[usize],
-    worker: usize,
-) -> Result<(), AllocError>
-    ensures { OnOk result (Extends text.old text.new (places_text word.now left.now right.now worker)) }
-{
-    write!(text, "{word} ")?;
-    push_place(text, left)?;
-    write!(text, " ")?;
-    push_place(text, right)?;
-    writeln!(text, " by {worker}")
 }
 
 // Puts the line of a step at the end of the text.
@@ -158,10 +119,7 @@ fn push_instances(text: &mut String, counts: RunCounts) -> Result<(), AllocError
         unrecorded,
         ..
     } = counts;
-    write!(
-        text,
-        " executed {executed} reused {reused} unrecorded {unrecorded}"
-    )
+    push_executed(text, executed, reused, unrecorded)
 }
 
 // Puts the counts of what workers did with strands at the end of the text.

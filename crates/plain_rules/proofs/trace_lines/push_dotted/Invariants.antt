@@ -1,6 +1,6 @@
 use Rattle.std.proofs.Common.{◌≡◌, ◌++◌, flat_map, string_bytes, drop}
-use Rattle.trace_report.specs.Traces.{dotted}
-use Rattle.trace_report.proofs.trace.push_dotted.Given as goal
+use Rattle.plain_rules.specs.TraceLines.{dotted}
+use Rattle.plain_rules.proofs.trace_lines.push_dotted.Given as goal
 
 -- what is written, and then the numbers that are left
 abbrev pub invariant-loop-number : goal.invariant-loop-number
