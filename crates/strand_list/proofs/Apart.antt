@@ -5,7 +5,8 @@ use Rattle.meaning.specs.Outcome.{Place}
 use Rattle.meaning.specs.Strands.{State, Held, Ended, Stalled, Faulted, Finished, Line, BookStep, Split, End, Stall, Fault, Finish, Fold, Book, is_free, is_held_at, is_root, is_alone, may_fold, becomes, splits, folds, if_allowed, stepped, first_book, replayed, replayed_on}
 use Rattle.trail_theory.specs.Order.{Every}
 use Rattle.strand_theory.proofs.Books.{NoneAt, same_bytes, other_bytes}
-use Rattle.strand_list.specs.Pages.{is_unused, Apart}
+use Rattle.strand_list.specs.Pages.{Apart}
+use Rattle.strand_lines.specs.Lines.{is_unused}
 
 -- each line is the first one, or was split off
 abbrev pub Known : List Place → List Line → Type 0

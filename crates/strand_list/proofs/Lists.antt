@@ -9,7 +9,8 @@ use Rattle.meaning.specs.Strands.{State, Held, Line, becomes, splits, folds, may
 use Rattle.numbered_runs.specs.Named.{line, named_state}
 use Rattle.numbered_runs.specs.declared.step.StrandLine.{StrandLine}
 use Rattle.strand_theory.proofs.Books.{NoneAt}
-use Rattle.strand_list.specs.Pages.{shown, position, removes, Apart, begins_pair, begins_with, are_neighbours}
+use Rattle.strand_list.specs.Pages.{shown, position, removes, Apart, begins_pair, are_neighbours}
+use Rattle.strand_lines.specs.Lines.{begins_with}
 
 -- ---- by numbers of lines
 

@@ -6,7 +6,7 @@ use Rattle.std.proofs.lemmas.Slice.Eq.{bytes_eq-Decides}
 use Rattle.place_chains.specs.Chains.{IsEndOf}
 use Rattle.meaning.specs.Outcome.{Place}
 use Rattle.strand_list.specs.Numbers.{all_mixed, number_of}
-use Rattle.strand_list.specs.Pages.{is_unused}
+use Rattle.strand_lines.specs.Lines.{is_unused}
 
 pub number_is : (place : Place) → all_mixed 1 place / 4294967296 ≡ number_of place
 unfolding number_of

@@ -9,7 +9,8 @@ use Rattle.meaning.specs.Strands.{Held, Line, Split, Fold, Book, is_free, may_fo
 use Rattle.strand_list.specs.Laying.{laying_step, may_lay, state_as}
 use Rattle.strand_list.specs.declared.laid_state.LaidState.{LaidState}
 use Rattle.strand_list.specs.declared.laid_state.LaidState.TheVariants as laid_state
-use Rattle.strand_list.specs.Pages.{items_of, is_unused, removes, Apart}
+use Rattle.strand_list.specs.Pages.{items_of, removes, Apart}
+use Rattle.strand_lines.specs.Lines.{is_unused}
 use Rattle.strand_list.specs.Steps.{Takes, may_split}
 use Rattle.strand_list.proofs.Lists.{folds_apart}
 

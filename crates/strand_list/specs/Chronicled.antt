@@ -3,7 +3,7 @@ use Rattle.std.specs.Prelude.{◌≡◌, ◌++◌, ℕ, Bool, true, false, List,
 use Rattle.meaning.specs.Outcome.{Place}
 use Rattle.meaning.specs.Strands.{BookStep, Book, Split, first_book, is_held_at, stepped}
 use Rattle.strand_list.specs.Laying.{laying_step}
-use Rattle.strand_list.specs.Pages.{has_strand}
+use Rattle.strand_lines.specs.Lines.{has_strand}
 use Rattle.strand_list.specs.declared.laid_state.LaidState.{LaidState}
 use Rattle.strand_list.specs.declared.error.BookError.{BookError}
 use Rattle.strand_list.specs.declared.error.BookError.TheVariants as error

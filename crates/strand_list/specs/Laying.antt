@@ -1,5 +1,5 @@
 -- How a strand is laid down.
-use Rattle.std.specs.Prelude.{Bool, true, false, not, ◌&&◌, List}
+use Rattle.std.specs.Prelude.{Bool, not, ◌&&◌, List}
 use Rattle.meaning.specs.Outcome.{Place}
 use Rattle.meaning.specs.Strands.{Line, State, Ended, Stalled, Faulted, Finished, BookStep, End, Stall, Fault, Finish, is_root, is_alone, is_held_at}
 use Rattle.strand_list.specs.declared.laid_state.LaidState.{LaidState}
@@ -24,9 +24,3 @@ may_lay laid_state.Ended p ls = is_held_at ls p
 may_lay laid_state.Faulted p ls = is_held_at ls p
 may_lay laid_state.Stalled p ls = is_held_at ls p && not (is_root p)
 may_lay laid_state.Finished p ls = is_held_at ls p && is_root p && is_alone ls
-
--- whether a strand that is laid down so is a run's last
-abbrev pub is_last : State → Bool
-is_last Finished = true
-is_last Faulted = true
-is_last _ = false

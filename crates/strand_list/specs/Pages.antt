@@ -1,11 +1,11 @@
 -- Lists of strands in code, as the definitions have them.
-use Rattle.std.specs.Prelude.{ℕ, suc, Bool, false, cond, not, ◌&&◌, ◌||◌, List, [], ◌∷◌, map, Option, Some, None}
+use Rattle.std.specs.Prelude.{ℕ, suc, Bool, false, cond, ◌&&◌, ◌||◌, List, [], ◌∷◌, map, Option, Some, None}
 use Rattle.std.specs.Global.{Vec}
 use Rattle.std.specs.Str.{bytes_eq}
-use Rattle.meaning.specs.Every.{every}
 use Rattle.meaning.specs.Outcome.{Place}
 use Rattle.meaning.specs.Strands.{Line, done, waits, holds_by}
 use Rattle.strand_theory.proofs.Books.{NoneAt}
+use Rattle.strand_lines.specs.Lines.{begins_with}
 use Rattle.numbered_runs.specs.Named.{line}
 use Rattle.numbered_runs.specs.declared.step.StrandLine.{StrandLine}
 
@@ -16,9 +16,6 @@ shown lines = map line lines
 -- vectors of places, as lists
 abbrev pub items_of : List (Vec ℕ) → List Place
 items_of vs = map (λ v. v.items) vs
-
-abbrev pub is_unused : Place → List Place → Bool
-is_unused n used = every (λ p. not (bytes_eq p n)) used
 
 -- the number of the first line of a place; that of no line where there is none
 abbrev pub position : Place → List Line → ℕ
@@ -44,18 +41,9 @@ begins_pair l r (x ∷ y ∷ rest) = is_pair l r x y
 begins_pair l r _ = false
 
 -- the right place stands directly behind the left one
-abbrev pub begins_with : Place → Place → List Line → Bool
-begins_with l r (x ∷ y ∷ rest) = bytes_eq x.0 l && bytes_eq y.0 r
-begins_with l r _ = false
-
 abbrev pub are_neighbours : Place → Place → List Line → Bool
 are_neighbours l r [] = false
 are_neighbours l r (x ∷ rest) = begins_with l r (x ∷ rest) || are_neighbours l r rest
-
--- a strand begins at that place
-abbrev pub has_strand : Place → List Line → Bool
-has_strand p [] = false
-has_strand p (l ∷ ls) = bytes_eq l.0 p || has_strand p ls
 
 -- the place of the first strand that the worker holds
 abbrev pub held_place : ℕ → List Line → Option Place

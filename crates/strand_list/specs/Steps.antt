@@ -2,7 +2,7 @@
 use Rattle.std.specs.Prelude.{◌≡◌, ℕ, Bool, true, false, not, ◌&&◌, Some, None}
 use Rattle.meaning.specs.Outcome.{Place}
 use Rattle.meaning.specs.Strands.{Book, BookStep, Fold, stepped, is_free, is_held_at, is_root, may_fold}
-use Rattle.strand_list.specs.Pages.{is_unused}
+use Rattle.strand_lines.specs.Lines.{is_unused}
 
 -- it is taken exactly where it is allowed; else the list stays as it is
 abbrev pub Takes : Book → BookStep → Bool → Book → Type 0

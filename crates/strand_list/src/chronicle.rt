@@ -7,6 +7,7 @@ use crate::error::BookError;
 use crate::laid_state::{LaidState, noted};
 use crate::page::Page;
 use numbered_runs::step::{BookStep, Place, StrandLine};
+use plain_rules::steps::put_step;
 use std::alloc::{AllocError, Global};
 
 /// The strands of a run, and the steps that made their list.
@@ -33,7 +34,8 @@ impl Chronicle {
     ghost use Rattle.std.specs.Prelude.{◌≡◌, ◌<◌, ◌&&◌, length, true, IfOk, IfErr, OnOk, OnErr, MatchOption, vec_len, vec_capacity};
     ghost use Rattle.meaning.specs.Strands.{Split, Fold, is_free, may_fold, stepped};
     ghost use Rattle.numbered_runs.specs.Named.{book_step};
-    ghost use Rattle.strand_list.specs.Pages.{shown, position, has_strand, are_neighbours, Apart};
+    ghost use Rattle.strand_list.specs.Pages.{shown, position, are_neighbours, Apart};
+    ghost use Rattle.strand_lines.specs.Lines.{has_strand};
     ghost use Rattle.strand_list.specs.Laying.{laying_step};
     ghost use Rattle.strand_list.specs.Steps.{is_allowed_fold};
     ghost use Rattle.strand_list.specs.Chronicled.{Took, Notes, IsRefusedBy, first_chronicle, unless_allowed, split_refusal, laying_refusal};
@@ -101,7 +103,7 @@ impl Chronicle {
         self.history.reserve(1)?;
         match self.page.take(alloc, &step) {
             Ok(true) => {
-                self.history.push_reserved(step);
+                put_step(&mut self.history, step);
                 Ok(true)
             }
             Ok(false) => Ok(false),
@@ -136,7 +138,7 @@ impl Chronicle {
         ensures refused { IfErr result (IsRefusedBy (split_refusal self.old.page victim.items new.now thief)) }
         ensures same { OnErr result (told self.new ≡ told self.old) }
     {
-        if !self.page.has_strand(&victim) {
+        if self.page.lacks_strand(&victim) {
             return Err(BookError::NoStrand);
         }
         match split_of(alloc, victim, new, thief) {
@@ -152,7 +154,7 @@ impl Chronicle {
         ensures refused { IfErr result (IsRefusedBy (laying_refusal self.old.page state place.items)) }
         ensures same { OnErr result (told self.new ≡ told self.old) }
     {
-        if !self.page.has_strand(&place) {
+        if self.page.lacks_strand(&place) {
             return Err(BookError::NoStrand);
         }
         if !self.page.is_held_at(&place) {
@@ -191,6 +193,6 @@ impl Chronicle {
         ensures taken { Took (told self.old) (book_step step) (told self.new) }
     {
         self.page.take_fold(&step);
-        self.history.push_reserved(step);
+        put_step(&mut self.history, step);
     }
 }

@@ -1,4 +1,4 @@
-//! Lists of a run: strands by places and states with their history, continuations that wait, kits that go home.
+//! Lists of a run: strands by places and states with their history, kits that go home.
 #![tactic(auto)]
 
 pub mod chronicle;
@@ -9,4 +9,3 @@ pub mod laid_state;
 pub mod lines;
 mod numbers;
 pub mod page;
-pub mod waiting;

@@ -1,21 +1,14 @@
 //! Lists of strands: what stands in them, and what a step makes of them.
 ghost use Rattle.std.specs.Prelude.{◌≡◌, ◌<◌, length, Some, None, MatchOption, OnOk, OnErr};
-ghost use Rattle.std.specs.Str.{bytes_eq};
-ghost use Rattle.meaning.specs.Strands.{Held, done, waits, holds_by, is_held, is_free, is_held_at, is_root, is_alone, may_fold, becomes, splits};
+ghost use Rattle.meaning.specs.Strands.{Held, done, waits, is_free, is_root, is_alone, may_fold, becomes, splits};
 ghost use Rattle.numbered_runs.specs.Named.{named_state, line};
-ghost use Rattle.strand_list.specs.Laying.{is_last};
-ghost use Rattle.strand_list.specs.Pages.{shown, position, removes, items_of, is_unused, is_pair, begins_pair};
-ghost use Rattle.strand_list.specs.Pages.{begins_with, are_neighbours, has_strand, held_place};
+ghost use Rattle.strand_list.specs.Pages.{shown, position, removes, is_pair, begins_pair};
+ghost use Rattle.strand_list.specs.Pages.{are_neighbours, held_place};
 
 use numbered_runs::step::{Place, State, StrandLine};
 use std::alloc::{AllocError, Global};
-
-/// Whether two places are the same.
-fn is_same(left: &[usize], right: &[usize]) -> bool
-    ensures same { result ≡ bytes_eq left.now right.now }
-{
-    left == right
-}
+use strand_lines::places::{begins_with, is_same};
+use strand_lines::states::is_held_by;
 
 /// Whether a place is that of the first strand.
 pub fn is_root(place: &[usize]) -> bool
@@ -24,38 +17,6 @@ pub fn is_root(place: &[usize]) -> bool
     match place {
         [] => true,
         _ => false,
-    }
-}
-
-/// Whether the place is none of these.
-pub fn is_unused(places: &[Place], place: &[usize]) -> bool
-    ensures unused { result ≡ is_unused place.now (items_of places.now) }
-{
-    for other in places.iter() {
-        if is_same(other, place) {
-            return false;
-        }
-    }
-    true
-}
-
-/// Whether a worker holds a strand of that state.
-fn is_held(state: State) -> bool
-    ensures held { result ≡ is_held (named_state state) }
-{
-    match state {
-        State::Held(_) => true,
-        State::Ended | State::Stalled | State::Faulted | State::Finished => false,
-    }
-}
-
-/// Whether that worker holds a strand of that state.
-pub fn is_held_by(state: State, worker: usize) -> bool
-    ensures held { result ≡ holds_by worker (named_state state) }
-{
-    match state {
-        State::Held(holder) => worker == holder,
-        State::Ended | State::Stalled | State::Faulted | State::Finished => false,
     }
 }
 
@@ -76,16 +37,6 @@ pub fn is_waiting(state: State) -> bool
     match state {
         State::Stalled | State::Faulted => true,
         State::Held(_) | State::Ended | State::Finished => false,
-    }
-}
-
-/// Whether a strand laid down so is a run's last.
-pub fn is_last(state: State) -> bool
-    ensures last { result ≡ is_last (named_state state) }
-{
-    match state {
-        State::Finished | State::Faulted => true,
-        _ => false,
     }
 }
 
@@ -124,18 +75,6 @@ pub fn held_place(lines: &[StrandLine], worker: usize) -> Option<&[usize]>
         }
     }
     None
-}
-
-/// Whether a worker holds the strand of that place.
-pub fn is_held_at(lines: &[StrandLine], place: &[usize]) -> bool
-    ensures held { result ≡ is_held_at (shown lines.now) place.now }
-{
-    for line in lines.iter() {
-        if is_same(&line.place, place) {
-            return is_held(line.state);
-        }
-    }
-    false
 }
 
 /// Whether one strand is left.
@@ -180,34 +119,12 @@ pub fn may_fold(lines: &[StrandLine], left: &[usize], right: &[usize]) -> bool
     false
 }
 
-/// Whether a list begins with lines at those places.
-fn begins_with(lines: &[StrandLine], left: &[usize], right: &[usize]) -> bool
-    ensures next { result ≡ begins_with left.now right.now (shown lines.now) }
-{
-    match lines {
-        [before, after, ..] => is_same(&before.place, left) && is_same(&after.place, right),
-        _ => false,
-    }
-}
-
 /// Whether a strand of the right place stands directly behind one of the left place.
 pub fn are_neighbours(lines: &[StrandLine], left: &[usize], right: &[usize]) -> bool
     ensures next { result ≡ are_neighbours left.now right.now (shown lines.now) }
 {
     for k in 0..lines.len() {
         if begins_with(&lines[k..], left, right) {
-            return true;
-        }
-    }
-    false
-}
-
-/// Whether there is a strand of that place.
-pub fn has_strand(lines: &[StrandLine], place: &[usize]) -> bool
-    ensures has_strand { result ≡ has_strand place.now (shown lines.now) }
-{
-    for line in lines.iter() {
-        if is_same(&line.place, place) {
             return true;
         }
     }

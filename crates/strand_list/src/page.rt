@@ -3,14 +3,14 @@ ghost use Rattle.std.specs.Prelude.{◌<◌};
 
 use crate::laid_state::{LaidState, state_of};
 use crate::lines::{
-    are_neighbours, find, has_strand, is_alone, is_free, is_held_at, is_root, is_unused, may_fold,
-    put_behind, set_state, take_out,
+    are_neighbours, find, is_alone, is_free, is_root, may_fold, put_behind, set_state, take_out,
 };
 use crate::numbers::number_of;
 use numbered_runs::step::{BookStep, Place, State, StrandLine};
 use place_chains::places::Places;
 use std::alloc::{AllocError, Global};
 use std::marker::Model;
+use strand_lines::places::{has_strand, is_held_at, is_unused, lacks_strand};
 
 /// For how many places that are split off room is made with the first one.
 const FEW: usize = 16;
@@ -44,10 +44,11 @@ fn more_for(places: usize) -> usize
 }
 
 impl Page {
-    ghost use Rattle.std.specs.Prelude.{◌≡◌, ◌<◌, ◌&&◌, ◌∷◌, true, length, MatchOption, IfOk, OnOk, OnErr};
+    ghost use Rattle.std.specs.Prelude.{◌≡◌, ◌<◌, ◌&&◌, ◌∷◌, not, true, length, MatchOption, IfOk, OnOk, OnErr};
     ghost use Rattle.meaning.specs.Strands.{Held, Split, Fold, first_book, is_free, is_held_at, may_fold, splits};
     ghost use Rattle.numbered_runs.specs.Named.{book_step};
-    ghost use Rattle.strand_list.specs.Pages.{shown, position, is_unused, has_strand, are_neighbours, Apart};
+    ghost use Rattle.strand_list.specs.Pages.{shown, position, are_neighbours, Apart};
+    ghost use Rattle.strand_lines.specs.Lines.{is_unused, has_strand};
     ghost use Rattle.strand_list.specs.Laying.{laying_step, may_lay};
     ghost use Rattle.strand_list.specs.Steps.{Takes, is_allowed_fold, may_split};
 
@@ -101,6 +102,13 @@ impl Page {
         ensures has_strand { result ≡ has_strand place.now self.now.lines }
     {
         has_strand(&self.lines, place)
+    }
+
+    /// Whether there is no strand of that place.
+    pub fn lacks_strand(&self, place: &[usize]) -> bool
+        ensures lacks { result ≡ not (has_strand place.now self.now.lines) }
+    {
+        lacks_strand(&self.lines, place)
     }
 
     /// Whether a strand of the right place stands directly behind one of the left place.

@@ -13,7 +13,8 @@ use Rattle.right_strands.specs.Pairs.{PlainPair, IsStill, is_over, is_waiting}
 use Rattle.strand_list.specs.declared.laid_state.LaidState.{LaidState}
 use Rattle.strand_list.specs.declared.laid_state.LaidState.TheVariants as laid_state
 use Rattle.strand_list.specs.Laying.{state_as}
-use Rattle.strand_list.specs.Pages.{position, removes, Apart, is_pair, begins_pair, begins_with}
+use Rattle.strand_list.specs.Pages.{position, removes, Apart, is_pair, begins_pair}
+use Rattle.strand_lines.specs.Lines.{begins_with}
 use Rattle.strand_list.specs.Replays.{LeavesRootAlone}
 use Rattle.strand_list.specs.Chronicled.{PlainChronicle}
 use Rattle.sync_fold.specs.Books.{PlainLaid, FitsLine, Fits, IsBook, may_be_one, may_touch, LiesAs, ArePair, BeginWithPair, IsPairOf, IsMadeOf, BeginAsPair, BeginAt, folded, halved, IsHalved, ends_alone}

@@ -11,7 +11,8 @@ use Rattle.right_strands.specs.Laid.{PlainPiece}
 use Rattle.strand_list.specs.declared.laid_state.LaidState.{LaidState}
 use Rattle.strand_list.specs.declared.laid_state.LaidState.TheVariants as laid_state
 use Rattle.strand_list.specs.Laying.{state_as, laying_step}
-use Rattle.strand_list.specs.Pages.{position, has_strand, is_unused, are_neighbours, Apart}
+use Rattle.strand_list.specs.Pages.{position, are_neighbours, Apart}
+use Rattle.strand_lines.specs.Lines.{has_strand, is_unused}
 use Rattle.strand_list.specs.Chronicled.{PlainChronicle, Took, unless, unless_allowed, split_refusal, laying_refusal}
 use Rattle.sync_fold.specs.Books.{PlainLaid, PlainBook, IsBook, Fits, BeginWithPair, IsHalved, may_touch, touch, folded, first_fold, fold_refusal, BecomeOne, FirstBecome, FirstStay, KeepsFrom, KeepsStrands, IsWhole, ends_alone}
 use Rattle.strand_list.specs.declared.error.BookError.{BookError}

@@ -8,7 +8,8 @@ use Rattle.strand_theory.proofs.Books.{NoneAt}
 use Rattle.right_strands.specs.Laid.{PlainPiece}
 use Rattle.strand_list.specs.declared.laid_state.LaidState.{LaidState}
 use Rattle.strand_list.specs.Laying.{laying_step}
-use Rattle.strand_list.specs.Pages.{has_strand, position, held_place, begins_with, are_neighbours, Apart}
+use Rattle.strand_list.specs.Pages.{position, held_place, are_neighbours, Apart}
+use Rattle.strand_lines.specs.Lines.{has_strand, begins_with}
 use Rattle.strand_list.specs.Chronicled.{PlainChronicle, Took, IsRefusedBy, unless, unless_allowed, split_refusal, laying_refusal}
 use Rattle.strand_list.specs.declared.error.BookError.{BookError}
 use Rattle.strand_list.specs.declared.error.BookError.TheVariants as error

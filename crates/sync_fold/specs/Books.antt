@@ -11,7 +11,8 @@ use Rattle.right_strands.specs.Laid.{PlainPiece, ends_run}
 use Rattle.right_strands.specs.Pairs.{PlainPair, IsStill, is_over, is_waiting, may_pair}
 use Rattle.strand_list.specs.declared.laid_state.LaidState.{LaidState}
 use Rattle.strand_list.specs.Laying.{state_as}
-use Rattle.strand_list.specs.Pages.{has_strand, position, are_neighbours}
+use Rattle.strand_list.specs.Pages.{position, are_neighbours}
+use Rattle.strand_lines.specs.Lines.{has_strand}
 use Rattle.strand_list.specs.Chronicled.{PlainChronicle, Took, IsRefusedBy, unless, unless_allowed, laying_refusal}
 use Rattle.sync_fold.specs.declared.laid.Laid.{Laid}
 use Rattle.sync_fold.specs.declared.laid.Laid.TheVariants.{Nothing, Whole, Half, Paired}

@@ -27,7 +27,7 @@ use Rattle.stepped_runs.specs.Layered.{HasOneLayer, HasOneLayerAs}
 use Rattle.stepped_runs.specs.Ends.{answer_at, answer_in}
 use Rattle.stepped_runs.proofs.Ends.{answers_elision, same_answer}
 use Rattle.worker_core.specs.Strands.{PlainStrands, run_of}
-use Rattle.strand_list.specs.Laying.{is_last}
+use Rattle.strand_lines.specs.Lines.{is_last}
 use Rattle.worker_core.specs.Cores.{PlainCore, IsEnd, IsEndOf, are_over}
 use Rattle.numbered_runs.specs.Sound.{AreSoundFor, setting_by}
 use Rattle.worker_core.specs.Keeps.{KeepsRun, StaysRun, IsElision, IsGiven, IsEndBy, ComesToEnd}

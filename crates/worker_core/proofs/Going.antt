@@ -15,7 +15,7 @@ use Rattle.stepped_runs.proofs.Workers.{refused_by}
 use Rattle.stepped_runs.proofs.Progress.{never_stuck}
 use Rattle.worker_core.specs.Strands.{PlainStrands, run_of}
 use Rattle.worker_core.specs.Folds.{KeepsProducts}
-use Rattle.strand_list.specs.Laying.{is_last}
+use Rattle.strand_lines.specs.Lines.{is_last}
 use Rattle.worker_core.specs.Cores.{PlainCore, setting_in, are_over}
 use Rattle.worker_core.specs.Keeps.{KeepsRun, StaysRun, HasSound, recalling}
 use Rattle.worker_core.specs.Going.{AreHeldBy, GoesOn}

@@ -19,7 +19,7 @@ use Rattle.numbered_runs.specs.declared.step.Step.{Step}
 use Rattle.numbered_runs.specs.declared.step.Step.TheVariants as step
 use Rattle.numbered_runs.specs.declared.refusal.Refusal.{Refusal}
 use Rattle.numbered_runs.specs.declared.refusal.Refusal.TheVariants as refusal
-use Rattle.strand_list.specs.Laying.{is_last}
+use Rattle.strand_lines.specs.Lines.{is_last}
 use Rattle.worker_core.specs.Strands.{PlainStrands, run_of}
 use Rattle.worker_core.specs.declared.piece.Move.TheVariants.{Work}
 use Rattle.worker_core.specs.Folds.{LeavesFolded, LeavesMoved}

@@ -11,7 +11,7 @@ use crate::strands::Strands;
 use instance_records::record::Record;
 use positions::answer::RunAnswer;
 use std::alloc::Global;
-use strand_list::lines::is_last;
+use strand_lines::states::is_last;
 use view_pool::{Kit, Pool, View};
 
 /// The records that are kept of a run with that answer: those that were made, where it has finished.

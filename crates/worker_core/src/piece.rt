@@ -17,7 +17,7 @@ use positions::phase::{Paused, Phase};
 use std::alloc::{AllocError, Global};
 use std::collections::VecDeque;
 use std::marker::Model;
-use strand_list::lines::is_held_by;
+use strand_lines::states::is_held_by;
 use strand_moves::task::Task;
 use view_pool::{Kit, Pool, View};
 

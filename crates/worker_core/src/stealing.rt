@@ -15,9 +15,9 @@ use frames::strand::Strand;
 use linked_program::checked::Checked;
 use numbered_runs::refusal::Refusal;
 use numbered_runs::step::{BookStep, Place};
+use plain_rules::waiting::{has_some, take_oldest};
 use std::alloc::{AllocError, Global};
 use strand_list::kits::give_back;
-use strand_list::waiting::{has_some, take_oldest};
 use strand_moves::task::Task;
 use view_pool::{Kit, View};
 

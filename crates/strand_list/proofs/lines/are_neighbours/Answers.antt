@@ -1,5 +1,6 @@
 use Rattle.std.proofs.Common.{◌≡◌, ap, sym, ◌∙◌, drop, true, false}
-use Rattle.strand_list.specs.Pages.{shown, begins_with, are_neighbours}
+use Rattle.strand_list.specs.Pages.{shown, are_neighbours}
+use Rattle.strand_lines.specs.Lines.{begins_with}
 use Rattle.strand_list.proofs.Lists.{next_here, next_later, rest_of, add_one}
 use Rattle.strand_list.proofs.lines.are_neighbours.Goals as goal
 

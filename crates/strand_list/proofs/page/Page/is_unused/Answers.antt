@@ -1,6 +1,7 @@
 use Rattle.std.proofs.Common.{ap, sym, ◌∙◌}
 use Rattle.meaning.specs.Strands.{Book}
-use Rattle.strand_list.specs.Pages.{is_unused, items_of}
+use Rattle.strand_list.specs.Pages.{items_of}
+use Rattle.strand_lines.specs.Lines.{is_unused}
 use Rattle.strand_list.proofs.Numbered.{none_under}
 use Rattle.strand_list.proofs.Steps.{unused_reverse}
 use Rattle.strand_list.proofs.page.Page.is_unused.Goals as goal
