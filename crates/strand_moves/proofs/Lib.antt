@@ -1,4 +1,3 @@
 pub mod Folding
-pub mod Initials
 pub mod Results
 pub mod Settling

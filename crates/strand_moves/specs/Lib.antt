@@ -1,3 +1,2 @@
-pub mod Begins
 pub mod Ends
 pub mod Joins

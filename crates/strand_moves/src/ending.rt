@@ -6,8 +6,8 @@ ghost use Rattle.strand_moves.specs.Ends.{left_with};
 
 use instance_records::record::Record;
 use layers::closing::{close_all, send_home};
-use positions::phase::Phase;
 use small_steps::machine::Machine;
+use strand_parts::ends::left_by;
 use view_pool::{Kit, KitSource, View};
 
 /// Keeps its lowest layer alone, and sends the other kits home.
@@ -56,8 +56,5 @@ pub fn let_go<V: View, K: KitSource<Kit<V>>>(machine: Machine<V>, kits: &mut K) 
 pub fn left_with<V: View>(machine: &Machine<V>) -> Option<i64>
     ensures left { result ≡ left_with machine.now }
 {
-    match machine.phase {
-        Phase::Leaving(value) if machine.below.is_empty() && machine.path.is_empty() => Some(value),
-        _ => None,
-    }
+    left_by(machine.phase, &machine.below, &machine.path)
 }

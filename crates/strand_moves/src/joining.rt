@@ -11,6 +11,8 @@ use positions::start::Start;
 use small_steps::machine::Machine;
 use std::alloc::AllocError;
 use std::mem;
+use strand_parts::ends::first_fault;
+use strand_parts::layering::join_layers;
 use view_pool::{Kit, View};
 
 /// Gives the value of the child behind which the strand begins to the slots that wait for it.
@@ -107,7 +109,7 @@ fn take_up<V: View>(machine: &mut Machine<V>, right: &mut Machine<V>) -> Result<
             Phase::Broken(fault) => join_broken(machine, fault, right),
             _ => join_ended(machine, value, right),
         },
-        Phase::Broken(first) => join_broken(machine, first, right),
+        Phase::Broken(first) => join_broken(machine, first_fault(first, right.phase), right),
         _ => Ok(()),
     }
 }
@@ -151,10 +153,13 @@ fn join_ended<V: View>(
     ensures product { OnErr result (operate_all machine.old.layer.kinds machine.new.layer.worths right.new.layer.worths
         ≡ operate_all machine.old.layer.kinds machine.old.layer.worths right.old.layer.worths) }
 {
-    match machine
-        .tally
-        .join(&mut right.tally, &mut machine.layer, &mut right.layer)
-    {
+    match join_layers(
+        &mut machine.tally,
+        &mut right.tally,
+        &mut machine.layer,
+        &mut machine.lower,
+        &mut right.layer,
+    ) {
         Ok(()) => {
             give_child(right, value);
             go_on_as(machine, right);

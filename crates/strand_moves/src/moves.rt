@@ -1,31 +1,24 @@
 //! Strands that begin, and what is taken out of a strand and put back.
-ghost use Rattle.std.specs.Prelude.{◌≡◌, ◌∷◌, [], IfOk, IfErr, false, length};
+ghost use Rattle.std.specs.Prelude.{◌≡◌, ◌∷◌, [], IfOk, IfErr};
 ghost use Rattle.evaluation.specs.Slots.{slots_for};
-ghost use Rattle.positions.specs.Advance.{next_statement};
-ghost use Rattle.positions.specs.Layers.{blank, begun};
-ghost use Rattle.positions.specs.Moves.{first_strand, stolen, stolen_with, inlined, detached, attached, returned_of, resumed, is_update_there, at_update};
+ghost use Rattle.positions.specs.Moves.{first_strand, stolen, stolen_with, inlined, detached, attached, returned_of, resumed, at_update};
 
-use crate::beginning::begin;
-use crate::nesting::may_nest;
 use crate::task::Task;
-use activations::activation::Activation;
 use activations::spares::Spares;
 use evaluation::slot::Slot;
-use layers::layer::{DEEPEST, Layer};
+use layers::layer::Layer;
 use layers::spares::SpareLists;
 use layers::tally::Tally;
 use linked_program::checked::Checked;
-use linked_program::code::Operation;
 use positions::phase::Phase;
 use positions::start::Start;
-use positions::work::{Position, Work};
 use small_steps::machine::Machine;
 use std::alloc::{AllocError, Global};
 use std::mem;
+use strand_parts::ends::is_update;
+use strand_parts::instances::{call, main_instance, put_parent, receive, take_parent};
+use strand_parts::layering::{first_layer, thief_layer};
 use view_pool::{Kit, View};
-
-/// How many levels there are below the instance of `main`.
-const LEVELS_BELOW_MAIN: u32 = DEEPEST - 1;
 
 /// So many slots without values.
 fn unset(alloc: Global, size: usize) -> Result<Vec<Slot>, AllocError>
@@ -34,28 +27,6 @@ fn unset(alloc: Global, size: usize) -> Result<Vec<Slot>, AllocError>
     let mut slots = Vec::new(alloc);
     slots.resize(size, Slot::Unset)?;
     Ok(slots)
-}
-
-/// The layer of a run's first strand, which keeps no readings, with the program's initial values; refused for want of memory alone, and then the kit is
-/// handed back.
-fn first_layer<V: View>(
-    alloc: Global,
-    program: &Checked,
-    kit: Kit<V>,
-) -> Result<Layer<V>, (AllocError, Kit<V>)>
-    requires kinds { kit ≡ program.now.kinds }
-    ensures begun { IfOk result (λ layer. layer ≡ begun kit program.now.initials (blank false kit (length program.now.codes))) }
-    ensures kinds { IfOk result (λ layer. layer.kinds ≡ kit) }
-    ensures handed_back { IfErr result (λ e. e.1 ≡ kit) }
-{
-    let mut layer = match Layer::open(alloc, kit, false, program.codes().len()) {
-        Ok(layer) => layer,
-        Err(refused) => return Err(refused),
-    };
-    if begin(&mut layer, program).is_err() {
-        return Err((AllocError, layer.close()));
-    }
-    Ok(layer)
 }
 
 /// The strand of a run's beginning, in which `main` is to be entered; refused for want of memory alone, and then the kit is handed back.
@@ -78,14 +49,13 @@ pub fn first<V: View>(
         Ok(layer) => layer,
         Err(refused) => return Err(refused),
     };
-    let work = Work::Block(Position { block: 0, index: 0 });
     Ok(Machine {
         start: Start::Root,
         layer,
         lower: Vec::new(alloc),
         path: Vec::new(alloc),
         place: Vec::new(alloc),
-        top: Activation::new(main, slots, Vec::new(alloc), work, LEVELS_BELOW_MAIN),
+        top: main_instance(alloc, main, slots),
         below: Vec::new(alloc),
         phase: Phase::Entering,
         arguments: Vec::new(alloc),
@@ -108,7 +78,7 @@ pub fn stolen<V: View>(
     ensures task_back { IfErr result (λ e. e.1 ≡ task) }
     ensures kit_back { IfErr result (λ e. e.2 ≡ kit) }
 {
-    let layer = match Layer::open(alloc, kit, may_nest(program.codes()), program.codes().len()) {
+    let layer = match thief_layer(alloc, program, kit) {
         Ok(layer) => layer,
         Err((error, kit)) => return Err((error, task, kit)),
     };
@@ -159,10 +129,8 @@ pub fn take_out<V: View>(machine: &mut Machine<V>, alloc: Global) -> Task
     let waiting = machine.spares.waiting(alloc);
     let place = mem::replace(&mut machine.place, name);
     let mut below = mem::replace(&mut machine.below, waiting);
-    match below.pop() {
-        Some(top) => Task { place, top, below },
-        None => unreachable!(),
-    }
+    let top = take_parent(&mut below, &mut machine.top);
+    Task { place, top, below }
 }
 
 /// Puts a continuation back below the child.
@@ -175,7 +143,7 @@ pub fn put_back<V: View>(machine: &mut Machine<V>, task: Task)
         top,
         mut below,
     } = task;
-    let _ = below.push(top);
+    put_parent(&mut below, top);
     machine.below = below;
     machine.place = place;
 }
@@ -184,8 +152,7 @@ pub fn put_back<V: View>(machine: &mut Machine<V>, task: Task)
 pub fn call_child<V: View>(machine: &mut Machine<V>)
     ensures called { machine.new ≡ inlined machine.old }
 {
-    let called = Phase::Entering;
-    machine.phase = called;
+    call(&mut machine.phase);
 }
 
 /// The value of the spawned child, where it has returned.
@@ -210,7 +177,7 @@ pub fn go_on_with<V: View>(machine: &mut Machine<V>, task: Task)
             mut top,
             below,
         } = task;
-        top.receive(value);
+        receive(&mut top, value);
         let over = mem::replace(&mut machine.top, top);
         let waiting = mem::replace(&mut machine.below, below);
         let name = mem::replace(&mut machine.place, place);
@@ -225,20 +192,7 @@ pub fn updates_next<V: View>(machine: &Machine<V>, program: &Checked) -> bool
     ensures update { result ≡ at_update program.now.codes machine.now }
 {
     match machine.phase {
-        Phase::Running => is_at_update(machine, program),
+        Phase::Running => is_update(machine.next_statement(program)),
         _ => false,
-    }
-}
-
-/// Whether the topmost instance's next statement is an update.
-fn is_at_update<V: View>(machine: &Machine<V>, program: &Checked) -> bool
-    ensures update { result ≡ is_update_there (next_statement program.now.codes machine.now) }
-{
-    match machine.next_statement(program) {
-        Some(instruction) => match &instruction.operation {
-            Operation::Update(_, _) => true,
-            _ => false,
-        },
-        None => false,
     }
 }

@@ -7,12 +7,12 @@ use Rattle.strand_moves.proofs.joining.join_ended.Goals as goal
 pub returns-in-Ok-clause-made : goal.returns-in-Ok-clause-made
 returns-in-Ok-clause-made g c kinds left right =
     subst (λ (t : PlainTally). HaveValues kinds t.made) (sym (ap (λ (s : PlainStrand). s.tally) c.go_on_as.ensures.goes_on))
-    (c.join.ensures.values kinds
+    (c.join_layers.ensures.values kinds
     (subst (λ (s : PlainStrand). HaveValues kinds s.tally.made) (sym c.machine.view_is) left)
     (subst (λ (s : PlainStrand). HaveValues kinds s.tally.made) (sym c.right.view_is) right))
 
 pub returns-in-Err-clause-made : goal.returns-in-Err-clause-made
 returns-in-Err-clause-made g c kinds left right =
-    c.join.ensures.values kinds
+    c.join_layers.ensures.values kinds
     (subst (λ (s : PlainStrand). HaveValues kinds s.tally.made) (sym c.machine.view_is) left)
     (subst (λ (s : PlainStrand). HaveValues kinds s.tally.made) (sym c.right.view_is) right)
