@@ -9,7 +9,7 @@ use Rattle.positions.specs.declared.phase.Phase.TheVariants.{Entering, Running, 
 use Rattle.positions.specs.Setting.{Setting}
 use Rattle.positions.specs.Activations.{PlainActivation}
 use Rattle.positions.specs.Layers.{PlainLayer}
-use Rattle.positions.specs.Tallies.{PlainTally}
+use Rattle.positions.specs.Tallies.{PlainTally, no_tally}
 use Rattle.positions.specs.Strands.{PlainStrand, PlainTask, IsLayered, IsLayeredAt}
 use Rattle.positions.specs.Advance.{advanced}
 use Rattle.positions.specs.Moves.{resumed, resumed_by, returned_at, joined_at, joined_after, joined_ended, joined, lowest_alone}
@@ -159,3 +159,15 @@ pub joined_or : {A E : Type 0} (l r new : PlainStrand) (res : Result A E) → Is
     → ((kinds : List Kind) → HaveValues kinds l.tally.made → HaveValues kinds r.tally.made → HaveValues kinds new.tally.made) → l.layer.kinds ≡ r.layer.kinds → IsWhole l → IsWhole r → IsWhole new
 joined_or l r new (Ok a) d is kept made same h k = joined_whole l r new d is (made l.layer.kinds h.made (made_as r.layer.kinds l.layer.kinds r.tally.made (sym same) k.made)) h
 joined_or l r new (Err e) d is kept made same h k = worths_whole l new kept h
+
+-- one that is let go has no layers below its one, and has nothing counted
+over_whole : (s : PlainStrand) → s.lower ≡ [] → s.tally ≡ no_tally → IsWhole s
+over_whole s e f = record {
+  layered = layered_at s.phase s (ap (λ (t : PlainTally). length t.opened) f ∙ sym (ap length e));
+  kinds = subst (λ ls. All (λ (l : PlainLayer). l.kinds ≡ s.layer.kinds) ls) (sym e) (All-nil (λ (l : PlainLayer). l.kinds ≡ s.layer.kinds));
+  made = subst (λ (t : PlainTally). HaveValues s.layer.kinds t.made) (sym f) (All-nil (HasValuesIfAnswers s.layer.kinds));
+}
+
+pub over_or : {A E : Type 0} (r new : PlainStrand) (res : Result A E) → OnOk res (new.lower ≡ []) → OnOk res (new.tally ≡ no_tally) → OnErr res (new ≡ with_worths new.layer.worths r) → IsWhole r → IsWhole new
+over_or r new (Ok a) e f kept h = over_whole new e f
+over_or r new (Err x) e f kept h = worths_whole r new kept h

@@ -39,6 +39,32 @@ impl<V: View> Strand<V> {
         }
     }
 
+    /// The same, where the right neighbour stays where it lies: joined it holds nothing any more but what `let_go` takes.
+    pub fn join_there(&mut self, right: &mut Strand<V>) -> Result<(), AllocError>
+        requires done { IsDone self.old.phase }
+        requires one_layer { right.old.lower ≡ [] }
+        requires kinds { self.old.layer.kinds ≡ right.old.layer.kinds }
+        requires monoids { All IsMonoid self.old.layer.kinds }
+        ensures joined { OnOk result (self.new ≡ joined self.old right.old) }
+        ensures kinds { right.new.layer.kinds ≡ right.old.layer.kinds }
+        ensures left_kept { OnErr result (self.new ≡ with_worths self.new.layer.worths self.old) }
+        ensures right_kept { OnErr result (right.new ≡ with_worths right.new.layer.worths right.old) }
+        ensures product { OnErr result
+            (operate_all self.old.layer.kinds self.new.layer.worths right.new.layer.worths
+            ≡ operate_all self.old.layer.kinds self.old.layer.worths right.old.layer.worths) }
+    {
+        joining::join_there(&mut self.machine, &mut right.machine)
+    }
+
+    /// The kit of a strand with one layer that is let go. This strand keeps the lists of its topmost instance.
+    pub fn let_go(&mut self, over: Strand<V>) -> Kit<V>
+        ensures same { self.new ≡ self.old }
+        ensures kit { result ≡ over.layer.kinds }
+    {
+        let Strand { machine } = over;
+        joining::let_go(&mut self.machine, machine)
+    }
+
     /// The kit of a strand with one layer that is let go. It takes no memory.
     pub fn close(self) -> Kit<V>
         ensures kit { result ≡ self.layer.kinds }

@@ -4,8 +4,10 @@ ghost use Rattle.monoid_laws.specs.declared.Kind.{Kind};
 ghost use Rattle.monoid_laws.specs.Kinds.{IsMonoid, operate_all};
 ghost use Rattle.record_theory.specs.Named.{HaveValues};
 ghost use Rattle.positions.specs.Moves.{joined, joined_broken, joined_ended, settled_by, FoldsViews};
+ghost use Rattle.positions.specs.Tallies.{no_tally};
 ghost use Rattle.strand_moves.specs.Joins.{IsDone, with_worths};
 
+use layers::tally::Tally;
 use positions::phase::{Fault, Phase};
 use positions::start::Start;
 use small_steps::machine::Machine;
@@ -56,6 +58,49 @@ pub fn join<V: View>(
     }
 }
 
+/// Puts the right neighbour behind this strand, which has ended or has a fault, and leaves it where it lies: without layers below its one and
+/// with nothing counted, to be let go. Where memory is refused both are as they were, but for reducers' values that have moved from the
+/// right one to the left.
+pub fn join_there<V: View>(
+    machine: &mut Machine<V>,
+    right: &mut Machine<V>,
+) -> Result<(), AllocError>
+    requires done { IsDone machine.old.phase }
+    requires one_layer { right.old.lower ≡ [] }
+    requires kinds { machine.old.layer.kinds ≡ right.old.layer.kinds }
+    requires monoids { All IsMonoid machine.old.layer.kinds }
+    ensures joined { OnOk result (machine.new ≡ joined machine.old right.old) }
+    ensures kinds { right.new.layer.kinds ≡ right.old.layer.kinds }
+    ensures made { (kinds : List Kind) → HaveValues kinds machine.old.tally.made → HaveValues kinds right.old.tally.made
+        → HaveValues kinds machine.new.tally.made }
+    ensures bare { OnOk result (right.new.lower ≡ []) }
+    ensures uncounted { OnOk result (right.new.tally ≡ no_tally) }
+    ensures left_kept { OnErr result (machine.new ≡ with_worths machine.new.layer.worths machine.old) }
+    ensures right_kept { OnErr result (right.new ≡ with_worths right.new.layer.worths right.old) }
+    ensures product { OnErr result (operate_all machine.old.layer.kinds machine.new.layer.worths right.new.layer.worths
+        ≡ operate_all machine.old.layer.kinds machine.old.layer.worths right.old.layer.worths) }
+    ensures views { OnErr result (FoldsViews machine.old.phase right.old.phase ⊎ ((machine.new ≡ machine.old) × (right.new ≡ right.old))) }
+{
+    match take_up(machine, right) {
+        Ok(()) => {
+            forget(right);
+            Ok(())
+        }
+        Err(error) => Err(error),
+    }
+}
+
+/// What a strand that is let go has counted and recorded is another's, and the layers below its one.
+fn forget<V: View>(machine: &mut Machine<V>)
+    ensures kinds { machine.new.layer.kinds ≡ machine.old.layer.kinds }
+    ensures bare { machine.new.lower ≡ [] }
+    ensures uncounted { machine.new.tally ≡ no_tally }
+{
+    let alloc = *machine.path.allocator();
+    machine.lower.clear();
+    machine.tally = Tally::new(alloc);
+}
+
 /// The kit of a strand with one layer that is let go.
 pub fn close<V: View>(machine: Machine<V>) -> Kit<V>
     ensures kit { result ≡ machine.layer.kinds }
@@ -64,7 +109,7 @@ pub fn close<V: View>(machine: Machine<V>) -> Kit<V>
 }
 
 /// The kit of a strand with one layer that is let go. This strand keeps the lists of its topmost instance.
-fn let_go<V: View>(machine: &mut Machine<V>, over: Machine<V>) -> Kit<V>
+pub fn let_go<V: View>(machine: &mut Machine<V>, over: Machine<V>) -> Kit<V>
     ensures same { machine.new ≡ machine.old }
     ensures kit { result ≡ over.layer.kinds }
 {
