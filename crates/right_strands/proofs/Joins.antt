@@ -1,5 +1,5 @@
 -- Two right neighbours become one right strand.
-use Rattle.std.proofs.Common.{◌≡◌, ◌⊎◌, inl, inr, ℕ, ◌-◌, ◌==◌, ◌&&◌, if◌then◌else◌, cond, ℤ, Bool, true, false, List, [], ◌∷◌, length, Some, None, refl, sym, ap, ◌∙◌, subst, arith}
+use Rattle.std.proofs.Common.{◌≡◌, ◌⊎◌, inl, inr, ℕ, ◌-◌, ◌==◌, ◌&&◌, if◌then◌else◌, cond, ℤ, Bool, true, false, List, [], ◌∷◌, length, Some, None, Result, Ok, Err, OnErr, refl, sym, ap, ◌∙◌, subst, arith}
 use Rattle.std.proofs.lemmas.Bool.{eq-eqb}
 use Rattle.monoid_laws.specs.Worth.{Worth}
 use Rattle.monoid_laws.specs.Kinds.{operate_all}
@@ -330,6 +330,11 @@ module _ (setting : Setting) where
   }
 
   -- reducers' values have moved: by itself the left one isn't known to be right
+  pub half_or : {A E : Type 0} (l r l' r' : PlainStrand) (start : Start) (res : Result A E) → OnErr res (l' ≡ with_worths l'.layer.worths l) → OnErr res (r' ≡ with_worths r'.layer.worths r)
+      → OnErr res (operate_all l.layer.kinds l'.layer.worths r'.layer.worths ≡ operate_all l.layer.kinds l.layer.worths r.layer.worths) → IsPairFrom setting start l r → OnErr res (IsPairFrom setting start l' r')
+  half_or l r l' r' start (Ok n) a b e h = tt
+  half_or l r l' r' start (Err n) a b e h = half_kept l r l' r' start a b e h
+
   pub half_held : (l l' : PlainStrand) (given : Start) (failed : Bool) → l' ≡ with_worths l'.layer.worths l → IsHeld setting given failed l → IsHeld setting given true l'
   half_held l l' given failed e h = record {
     kinds = ap (λ (s : PlainStrand). s.layer.kinds) e ∙ h.kinds;

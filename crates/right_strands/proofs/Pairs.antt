@@ -1,5 +1,5 @@
 -- Two pieces that may be joined are a pair.
-use Rattle.std.proofs.Common.{◌≡◌, ◌⊎◌, inl, inr, ◌&&◌, ℤ, true, false, List, [], ◌∷◌, refl, sym, ap, ◌∙◌, subst}
+use Rattle.std.proofs.Common.{◌≡◌, ◌⊎◌, inl, inr, ◌&&◌, ℤ, true, false, [], refl, sym, ap, ◌∙◌, subst}
 use Rattle.meaning.specs.SmallStep.{same_name}
 use Rattle.strand_theory.proofs.Names.{both_are}
 use Rattle.positions.specs.declared.phase.Phase.TheVariants.{Leaving, Broken}
@@ -11,12 +11,11 @@ use Rattle.positions.specs.Simulation.{place_of}
 use Rattle.positions.specs.Strands.{PlainStrand}
 use Rattle.activations.specs.Waiting.{leaves_none}
 use Rattle.right_strands.specs.Remembering.{Remembers, recalling}
-use Rattle.positions.specs.Moves.{joined}
-use Rattle.right_strands.specs.Rightness.{PlainRight, IsRightBy, IsRightStrand}
+use Rattle.right_strands.specs.Rightness.{IsRightBy, IsRightStrand}
 use Rattle.strand_list.specs.declared.laid_state.LaidState.{LaidState}
 use Rattle.strand_list.specs.declared.laid_state.LaidState.TheVariants as laid_state
 use Rattle.right_strands.specs.Laid.{PlainPiece, IsPausedAs}
-use Rattle.right_strands.specs.Pairs.{StopsBroken, IsStill, IsPair, IsPairFrom, IsPairIn, right_of, is_over, is_waiting, frees, may_follow, may_pair}
+use Rattle.right_strands.specs.Pairs.{StopsBroken, IsStill, IsPair, IsPairFrom, is_over, is_waiting, frees, may_follow, may_pair}
 use Rattle.right_strands.proofs.Points.{fault_is}
 use Rattle.right_strands.proofs.Waiting.{waiting_decided}
 use Rattle.right_strands.proofs.Joins.{stalled_alone}
@@ -101,29 +100,3 @@ pair_of setting l r s t start a b c hl hr over waits may = record {
   pair = λ k. subst (λ s. IsPair (recalling setting k) s t) (sym a) (subst (IsPair (recalling setting k) l.strand) (sym b) (pair_there (recalling setting k) l r (lies_at setting k l hl) (lies_at setting k r hr) over waits may));
   begins = c ∙ ap (λ (s : PlainStrand). s.start) (sym a);
 }
-
--- ---- where the right one lies in a list of one
-
-pub pair_in : (setting : Setting) (start : Start) (l r : PlainStrand) (rs : List PlainStrand) → rs ≡ r ∷ [] → IsPairFrom setting start l r → IsPairIn setting start l rs
-pair_in setting start l r rs e h = subst (IsPairIn setting start l) (sym e) (record { one = refl; pair = h })
-
--- what lies in a list of one is its right one
-pub lies_there : (l r : PlainStrand) (rs : List PlainStrand) → rs ≡ r ∷ [] → right_of l rs ≡ r
-lies_there l r rs e = ap (right_of l) e
-
-pub pair_out : (setting : Setting) (start : Start) (l r : PlainStrand) (rs : List PlainStrand) → rs ≡ r ∷ [] → IsPairIn setting start l rs → IsPairFrom setting start l r
-pair_out setting start l r rs e h = subst (IsPairFrom setting start l) (lies_there l r rs e) h.pair
-
--- what comes of the two, told by the list
-abbrev pub as_right : PlainStrand → PlainRight
-as_right t = record { strand = t; failed = false }
-
-pub joined_there : (l r t : PlainStrand) (rs : List PlainStrand) (s : PlainRight) → s.strand ≡ l → rs ≡ r ∷ [] → t ≡ joined l r → as_right t ≡ as_right (joined s.strand (right_of s.strand rs))
-joined_there l r t rs s a e h = ap as_right (subst (λ (l : PlainStrand). t ≡ joined l (right_of l rs)) (sym a) (h ∙ ap (joined l) (sym (lies_there l r rs e))))
-
-pub still_there : (l r l' r' : PlainStrand) (rs rs' : List PlainStrand) (s : PlainRight) → s.strand ≡ l → rs ≡ r ∷ [] → rs' ≡ r' ∷ [] → IsStill (record { left = l; right = r }) (record { left = l'; right = r' })
-    → IsStill (record { left = s.strand; right = right_of s.strand rs }) (record { left = l'; right = right_of l' rs' })
-still_there l r l' r' rs rs' s a e f h =
-    subst (λ (l : PlainStrand). IsStill (record { left = l; right = right_of l rs }) (record { left = l'; right = right_of l' rs' })) (sym a)
-    (subst (λ (x : PlainStrand). IsStill (record { left = l; right = x }) (record { left = l'; right = right_of l' rs' })) (sym (lies_there l r rs e))
-    (subst (λ (x : PlainStrand). IsStill (record { left = l; right = r }) (record { left = l'; right = x })) (sym (lies_there l' r' rs' f)) h))

@@ -1,5 +1,5 @@
 -- Two neighbours that may become one strand.
-use Rattle.std.specs.Prelude.{◌≡◌, ◌⊎◌, ℤ, Bool, true, false, ◌&&◌, List, [], ◌∷◌}
+use Rattle.std.specs.Prelude.{◌≡◌, ◌⊎◌, ℤ, Bool, true, false, ◌&&◌, List, []}
 use Rattle.monoid_laws.specs.Worth.{Worth}
 use Rattle.monoid_laws.specs.Kinds.{operate_all}
 use Rattle.meaning.specs.SmallStep.{same_name}
@@ -82,13 +82,3 @@ module _ (setting : Setting) where
 pub record IsPairFrom (setting : Setting) (start : Start) (l r : PlainStrand) : Type 0 where
   pub pair : (k : Remembers setting) → IsPair (recalling setting k) l r
   pub begins : start ≡ l.start
-
--- the right one of a pair, where it lies in a list of one
-abbrev pub right_of : PlainStrand → List PlainStrand → PlainStrand
-right_of l [] = l
-right_of l (r ∷ rs) = r
-
--- the same, where the right one lies in a list of one
-pub record IsPairIn (setting : Setting) (start : Start) (l : PlainStrand) (rs : List PlainStrand) : Type 0 where
-  pub one : rs ≡ right_of l rs ∷ []
-  pub pair : IsPairFrom setting start l (right_of l rs)

@@ -5,7 +5,6 @@ pub mod laid;
 pub mod laws;
 pub mod lists;
 pub mod pair;
-pub mod room;
 pub mod run;
 pub mod strand;
 pub mod task;

@@ -4,7 +4,6 @@ ghost use Rattle.positions.specs.Moves.{joined};
 ghost use Rattle.right_strands.specs.Pairs.{IsStill, is_over, is_waiting, frees, may_pair};
 
 use crate::laid::{LaidState, Piece};
-use crate::room::Room;
 use crate::run::{Run, Scene};
 use crate::strand::RightStrand;
 use positions::start::Start;
@@ -13,22 +12,22 @@ use std::marker::Model;
 use view_pool::{Kit, View};
 
 /// Two neighbours that may become one, and where the left one begins. Where a joining was refused for memory some reducers have
-/// moved from the right one to the left. The right one lies where it can be put back without memory.
+/// moved from the right one to the left.
 #[derive(Drop)]
 pub struct Pair<J: Run, V: View = Box<dyn View>> {
     left: Box<RightStrand<J, V>>,
-    right: Room<V>,
+    right: Box<RightStrand<J, V>>,
     start: Start,
 }
 
 impl<J: Run, V: View> Model for Pair<J, V> {
-    ghost use Rattle.right_strands.specs.Pairs.{PlainPair, IsPairIn, right_of};
+    ghost use Rattle.right_strands.specs.Pairs.{PlainPair, IsPairFrom};
 
     ghost Value = { PlainPair };
 
-    ghost view = { λ p. record { left = p.left.value.strand; right = right_of p.left.value.strand p.right } };
+    ghost view = { λ p. record { left = p.left.value.strand; right = p.right.value.strand } };
 
-    ghost invariant = { λ p. IsPairIn J.setting p.start p.left.value.strand p.right };
+    ghost invariant = { λ p. IsPairFrom J.setting p.start p.left.value.strand p.right.value.strand };
 }
 
 impl<J: Run, V: View> Piece<J, V> {
@@ -69,21 +68,17 @@ impl<J: Run, V: View> Piece<J, V> {
 }
 
 impl<J: Run, V: View> Pair<J, V> {
-    /// Two pieces that may become one strand, with room in which nothing lies yet.
-    pub fn new(left: Piece<J, V>, right: Piece<J, V>, room: Room<V>) -> Pair<J, V>
+    /// Two pieces that may become one strand.
+    pub fn new(left: Piece<J, V>, right: Piece<J, V>) -> Pair<J, V>
         requires over { is_over left.state ≡ true }
         requires waits { is_waiting right.state ≡ true }
         requires may { may_pair left right ≡ true }
-        requires none { room ≡ [] }
         ensures pair { result ≡ record { left = left.strand; right = right.strand } }
     {
         let start = left.start();
-        let left = left.into_box();
-        let mut room = room;
-        room.put(right.into_strand());
         Pair {
-            left,
-            right: room,
+            left: left.into_box(),
+            right: right.into_box(),
             start,
         }
     }
@@ -102,19 +97,15 @@ impl<J: Run, V: View> Pair<J, V> {
     {
         let Pair {
             mut left,
-            right: mut room,
+            mut right,
             start,
         } = self;
-        match left.join(scene, start, &mut room) {
-            Ok(kit) => Ok((left, kit)),
-            Err(error) => Err((
-                error,
-                Pair {
-                    left,
-                    right: room,
-                    start,
-                },
-            )),
+        match left.join(scene, start, &mut *right) {
+            Ok(()) => {
+                let kit = left.let_go(Box::into_inner(right));
+                Ok((left, kit))
+            }
+            Err(error) => Err((error, Pair { left, right, start })),
         }
     }
 }

@@ -11,9 +11,8 @@ ghost use Rattle.small_steps.specs.Steps.{GivesNone, HoldsFor};
 ghost use Rattle.activations.specs.Waiting.{leaves_none};
 ghost use Rattle.running_ahead.specs.Stepped.{IsStepped};
 ghost use Rattle.right_strands.specs.Rightness.{FitsHere, IsRightStrand, WasDetached};
-ghost use Rattle.right_strands.specs.Pairs.{IsPairIn, IsStill, right_of};
+ghost use Rattle.right_strands.specs.Pairs.{IsPairFrom, IsStill};
 
-use crate::room::Room;
 use crate::run::{Run, Scene};
 use crate::task::RightTask;
 use frames::strand::Strand;
@@ -325,38 +324,45 @@ impl<J: Run, V: View> RightStrand<J, V> {
         self.strand.close_upper(kits);
     }
 
-    /// Puts its right neighbour behind it, which lies in that room, where the two are a pair and it begins there, and gives the right
-    /// one's kit. Where memory is refused the right one lies there again, and is its pair still, but by itself the strand has failed then.
+    /// Puts its right neighbour behind it, where the two are a pair and it begins there; the right one is to be let go. Where memory is
+    /// refused they are a pair still, but each by itself has failed then.
     pub(crate) fn join(
         &mut self,
         scene: &Scene<'_, J>,
         start: Start,
-        room: &mut Room<V>,
-    ) -> Result<Kit<V>, AllocError>
-        requires pair { IsPairIn J.setting start self.old.strand room.old }
+        right: &mut RightStrand<J, V>,
+    ) -> Result<(), AllocError>
+        requires pair { IsPairFrom J.setting start self.old.strand right.old.strand }
         ensures joined { OnOk result (self.new
-            ≡ record { strand = joined self.old.strand (right_of self.old.strand room.old); failed = false }) }
-        ensures kit { IfOk result (λ kit. kit ≡ J.setting.kinds) }
-        ensures one_layer { (right_of self.old.strand room.old).lower ≡ [] }
-        ensures pair { OnErr result (IsPairIn J.setting start self.new.strand room.new) }
+            ≡ record { strand = joined self.old.strand right.old.strand; failed = false }) }
+        ensures one_layer { right.old.strand.lower ≡ [] }
+        ensures pair { OnErr result (IsPairFrom J.setting start self.new.strand right.new.strand) }
         ensures still { OnErr result (IsStill
-            (record { left = self.old.strand; right = right_of self.old.strand room.old })
-            (record { left = self.new.strand; right = right_of self.new.strand room.new })) }
+            (record { left = self.old.strand; right = right.old.strand })
+            (record { left = self.new.strand; right = right.new.strand })) }
     {
         // The setting's records are sound: so the two are neighbours that may become one.
         scene.upheld();
-        match self.strand.join(room.take()) {
-            Ok(kit) => {
+        right.failed = true;
+        match self.strand.join_there(&mut right.strand) {
+            Ok(()) => {
                 self.start = start;
                 self.failed = false;
-                Ok(kit)
+                Ok(())
             }
-            Err((error, right)) => {
-                room.put(right);
+            Err(error) => {
                 self.failed = true;
                 Err(error)
             }
         }
+    }
+
+    /// The kit of a strand that is let go, of which this one keeps some lists.
+    pub(crate) fn let_go(&mut self, over: RightStrand<J, V>) -> Kit<V>
+        ensures same { self.new ≡ self.old }
+        ensures kit { result ≡ J.setting.kinds }
+    {
+        self.strand.let_go(over.into_strand())
     }
 
     /// How many kits it has: one for each of its layers.

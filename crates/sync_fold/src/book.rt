@@ -8,7 +8,6 @@ use numbered_runs::step::{BookStep, Place, StrandLine};
 use positions::answer::RunAnswer;
 use right_strands::laid::Piece;
 use right_strands::pair::Pair;
-use right_strands::room::Room;
 use right_strands::run::{Run, Scene};
 use right_strands::strand::RightStrand;
 use std::alloc::{AllocError, Global};
@@ -299,7 +298,6 @@ impl<J: Run, V: View> Book<J, V> {
     /// refused the pair of them may stay in the left line, and the same fold goes on with it.
     pub fn fold_pair(
         &mut self,
-        alloc: Global,
         scene: &Scene<'_, J>,
         left: Place,
         right: Place,
@@ -320,7 +318,7 @@ impl<J: Run, V: View> Book<J, V> {
     {
         // What the type keeps: so a refusal is one that a call of a book gives.
         self.upheld();
-        match self.try_fold_pair(alloc, scene, left, right, worker) {
+        match self.try_fold_pair(scene, left, right, worker) {
             Ok(joined) => Ok(joined),
             Err(error) => Err(Refusal::of(error)),
         }
@@ -329,7 +327,6 @@ impl<J: Run, V: View> Book<J, V> {
     /// Two neighbours become one strand, or a plain refusal says why not.
     fn try_fold_pair(
         &mut self,
-        alloc: Global,
         scene: &Scene<'_, J>,
         left: Place,
         right: Place,
@@ -354,48 +351,17 @@ impl<J: Run, V: View> Book<J, V> {
         if !self.may_touch(&left, &right) {
             return Err(BookError::NotNeighbour);
         }
-        self.fold_at(alloc, scene, left, right, worker)
+        self.fold_at(scene, left, right, worker)
     }
 
-    /// Two neighbours that may be one strand, as far as what is kept of them says, become one.
+    /// Two neighbours that may be one strand, as far as what is kept of them says, become one, or a pair.
     fn fold_at(
         &mut self,
-        alloc: Global,
         scene: &Scene<'_, J>,
         left: Place,
         right: Place,
         worker: usize,
     ) -> Result<(Box<RightStrand<J, V>>, Kit<V>), BookError>
-        requires touch { touch self.old left.items right.items ≡ true }
-        ensures taken { OnOk result
-            (Took self.old.chronicle (Fold left.items right.items worker) self.new.chronicle) }
-        ensures joined { IfOk result
-            (λ r. BecomeOne self.old left.items r.0.value.strand) }
-        ensures going { IfOk result (λ r. r.0.value.failed ≡ false) }
-        ensures kit { IfOk result (λ r. r.1 ≡ J.setting.kinds) }
-        ensures counted { IfOk result (λ r. TakesUp r.0.value.strand self.old.laid self.new.laid) }
-        ensures refused { IfErr result
-            (IsRefusedBy (unless_allowed (stepped self.old.chronicle.page (Fold left.items right.items worker)))) }
-        ensures same { OnErr result (self.new.chronicle ≡ self.old.chronicle) }
-        ensures kept { IfErr result
-            (λ e. KeepsStrands self.old left.items e self.new) }
-    {
-        match Room::new(alloc) {
-            Ok(room) => self.fold_in(room, scene, left, right, worker),
-            Err(AllocError) => Err(BookError::NoMemory),
-        }
-    }
-
-    /// Two neighbours that may be one strand, as far as what is kept of them says, become one, or a pair in that room.
-    fn fold_in(
-        &mut self,
-        room: Room<V>,
-        scene: &Scene<'_, J>,
-        left: Place,
-        right: Place,
-        worker: usize,
-    ) -> Result<(Box<RightStrand<J, V>>, Kit<V>), BookError>
-        requires none { room ≡ [] }
         requires touch { touch self.old left.items right.items ≡ true }
         ensures taken { OnOk result
             (Took self.old.chronicle (Fold left.items right.items worker) self.new.chronicle) }
@@ -418,7 +384,7 @@ impl<J: Run, V: View> Book<J, V> {
             Ok(step) => step,
             Err(error) => return Err(error),
         };
-        match fold_kept(scene, &mut self.laid, k, room) {
+        match fold_kept(scene, &mut self.laid, k) {
             Ok(joined) => {
                 self.chronicle.fold(step);
                 Ok(joined)
@@ -475,7 +441,7 @@ impl<J: Run, V: View> Book<J, V> {
         // What the type keeps: so the first two that may be folded lie beside each other.
         self.upheld();
         match places_at(alloc, self.chronicle.strands(), k) {
-            Ok((left, right)) => self.fold_found(alloc, scene, left, right, worker),
+            Ok((left, right)) => self.fold_found(scene, left, right, worker),
             Err(AllocError) => Err(Refusal::without_memory()),
         }
     }
@@ -484,7 +450,6 @@ impl<J: Run, V: View> Book<J, V> {
     /// they may stay as a pair.
     fn fold_found(
         &mut self,
-        alloc: Global,
         scene: &Scene<'_, J>,
         left: Place,
         right: Place,
@@ -506,7 +471,7 @@ impl<J: Run, V: View> Book<J, V> {
     {
         // What the type keeps: so a refusal is one that a call of a book gives.
         self.upheld();
-        match self.fold_at(alloc, scene, left, right, worker) {
+        match self.fold_at(scene, left, right, worker) {
             Ok(joined) => Ok(joined),
             Err(error) => Err(Refusal::of(error)),
         }

@@ -7,7 +7,6 @@ ghost use Rattle.sync_fold.specs.Books.{BeginAsOne, BeginWithPair, IsHalved, Pla
 use crate::kept::{keep_pair, take_behind, take_two};
 use crate::laid::{LaidOf, join_up, may_touch};
 use numbered_runs::step::{Place, StrandLine};
-use right_strands::room::Room;
 use right_strands::run::{Run, Scene};
 use right_strands::strand::RightStrand;
 use std::alloc::{AllocError, Global};
@@ -55,17 +54,14 @@ pub(crate) fn places_at(
     Ok((left, right))
 }
 
-/// The strand of that number and the next one become one, which a worker holds. For want of memory they are kept as a pair in that
-/// room.
+/// The strand of that number and the next one become one, which a worker holds. For want of memory they are kept as a pair.
 pub(crate) fn fold_kept<J: Run, V: View>(
     scene: &Scene<'_, J>,
     laid: &mut Vec<LaidOf<J, V>>,
     k: usize,
-    room: Room<V>,
 ) -> Result<(Box<RightStrand<J, V>>, Kit<V>), AllocError>
     requires within { k + 1 < length laid.old.items }
     requires pair { BeginWithPair (drop k laid.old.items) }
-    requires none { room ≡ [] }
     ensures joined { IfOk result (λ r. BeginAsOne (drop k laid.old.items) r.0.value.strand) }
     ensures going { IfOk result (λ r. r.0.value.failed ≡ false) }
     ensures kit { IfOk result (λ r. r.1 ≡ J.setting.kinds) }
@@ -74,7 +70,7 @@ pub(crate) fn fold_kept<J: Run, V: View>(
     ensures halved { OnErr result (IsHalved k laid.old.items laid.new.items) }
 {
     let (left, right) = take_two(laid, k);
-    match join_up(scene, left, right, room) {
+    match join_up(scene, left, right) {
         Ok(joined) => {
             take_behind(laid, k);
             Ok(joined)

@@ -6,7 +6,6 @@ ghost use Rattle.sync_fold.specs.declared.laid.Laid.TheVariants.{Whole};
 
 use right_strands::laid::{LaidState, Piece};
 use right_strands::pair::Pair;
-use right_strands::room::Room;
 use right_strands::run::{Run, Scene};
 use right_strands::strand::RightStrand;
 use view_pool::{Kit, View};
@@ -97,14 +96,12 @@ pub(crate) fn into_alone<J: Run, V: View>(mut laid: Vec<LaidOf<J, V>>) -> Piece<
     }
 }
 
-/// A piece and what is kept of the strand on its right as a pair in that room, and as what both were laid down.
+/// A piece and what is kept of the strand on its right as a pair, and as what both were laid down.
 fn pair_pieces<J: Run, V: View>(
     left: Piece<J, V>,
     right: LaidOf<J, V>,
-    room: Room<V>,
 ) -> (Pair<J, V>, LaidState, LaidState)
     requires pair { ArePair (Whole left) right }
-    requires none { room ≡ [] }
     ensures pair { IsPairOf (Whole left) right result.0 }
     ensures over { LiesAs (Whole left) result.1 }
     ensures waiting { LiesAs right result.2 }
@@ -113,7 +110,7 @@ fn pair_pieces<J: Run, V: View>(
         Laid::Whole(right) => {
             let over = left.state();
             let waiting = right.state();
-            (Pair::new(left, right, room), over, waiting)
+            (Pair::new(left, right), over, waiting)
         }
         Laid::Nothing | Laid::Half(..) | Laid::Paired(_) => unreachable!(),
     }
@@ -130,36 +127,31 @@ fn paired_as<J: Run, V: View>(right: LaidOf<J, V>) -> LaidState
     }
 }
 
-/// What is kept of two neighbours that may become one, as a pair, and as what both were laid down. Two that aren't one yet become it in
-/// that room.
+/// What is kept of two neighbours that may become one, as a pair, and as what both were laid down.
 fn pair_up<J: Run, V: View>(
     left: LaidOf<J, V>,
     right: LaidOf<J, V>,
-    room: Room<V>,
 ) -> (Pair<J, V>, LaidState, LaidState)
     requires pair { ArePair left right }
-    requires none { room ≡ [] }
     ensures pair { IsPairOf left right result.0 }
     ensures over { LiesAs left result.1 }
     ensures waiting { LiesAs right result.2 }
 {
     match left {
-        Laid::Whole(left) => pair_pieces(left, right, room),
+        Laid::Whole(left) => pair_pieces(left, right),
         Laid::Half(pair, over) => (pair, over, paired_as(right)),
         Laid::Nothing | Laid::Paired(_) => unreachable!(),
     }
 }
 
-/// The strand of two neighbours that may become one, and the kit of the right one; for want of memory both are a pair in that room from
-/// then on, laid down as before.
+/// The strand of two neighbours that may become one, and the kit of the right one; for want of memory both are a pair from then
+/// on, laid down as before.
 pub(crate) fn join_up<J: Run, V: View>(
     scene: &Scene<'_, J>,
     left: LaidOf<J, V>,
     right: LaidOf<J, V>,
-    room: Room<V>,
 ) -> Result<(Box<RightStrand<J, V>>, Kit<V>), (Pair<J, V>, LaidState, LaidState)>
     requires pair { ArePair left right }
-    requires none { room ≡ [] }
     ensures joined { IfOk result (λ r. AreOne left right r.0.value.strand) }
     ensures going { IfOk result (λ r. r.0.value.failed ≡ false) }
     ensures kit { IfOk result (λ r. r.1 ≡ J.setting.kinds) }
@@ -168,7 +160,7 @@ pub(crate) fn join_up<J: Run, V: View>(
     ensures over { IfErr result (λ e. LiesAs left e.1) }
     ensures waiting { IfErr result (λ e. LiesAs right e.2) }
 {
-    let (pair, over, waiting) = pair_up(left, right, room);
+    let (pair, over, waiting) = pair_up(left, right);
     match pair.join(scene) {
         Ok(joined) => Ok(joined),
         Err((_, pair)) => Err((pair, over, waiting)),

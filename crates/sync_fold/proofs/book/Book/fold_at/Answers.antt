@@ -9,7 +9,7 @@ use Rattle.sync_fold.specs.Books.{PlainBook, BeginAsOne, BeginWithPair, IsHalved
 use Rattle.sync_fold.specs.Counts.{TakesUp}
 use Rattle.strand_list.specs.Chronicles.{told}
 use Rattle.sync_fold.proofs.Keeping.{apart_of, same_keeps, fold_keeps, halve_keeps, pair_there, pair_long, touch_missing, kept_same, book_of}
-use Rattle.sync_fold.proofs.book.Book.fold_in.Goals as goal
+use Rattle.sync_fold.proofs.book.Book.fold_at.Goals as goal
 
 pub fold-requires : goal.fold-requires
 fold-requires g c = record {
