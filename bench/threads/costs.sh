@@ -17,7 +17,7 @@ spawned=75024 # by fib(24)
 few=2000 many=8000
 # Parts of the names of the functions that begin a stolen strand, and of those that fold a pair.
 beginning='Desk::begin_stolen|Desk::split|Book::split|Chronicle::split|Strand::stolen|Machine::stolen'
-folding='Book::fold_pair|Book::fold_at|fold_kept|Pair::join|Strand::join|Machine::join|Hypermap::fold'
+folding='Desk::fold|Book::fold_pair|Book::fold_at|fold_kept|Pair::join|Strand::join|Machine::join|Hypermap::fold'
 echo run > "$room/once"
 : > "$room/tables"
 calls $fib > "$room/calls"
