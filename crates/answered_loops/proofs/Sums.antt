@@ -106,6 +106,14 @@ kept_more : (b : Bool) (ns ms rs : List Note) → kept_behind b (kept_behind b n
 kept_more true ns ms rs = append_assoc ns ms rs
 kept_more false ns ms rs = refl
 
+kept_same : (b : Bool) (ns ms rs : List Note) → (b ≡ true → ms ≡ rs) → kept_behind b ns ms ≡ kept_behind b ns rs
+kept_same true ns ms rs h = ap (λ xs. ns ++ xs) (h refl)
+kept_same false ns ms rs h = refl
+
+-- what a record has read counts only where the layer keeps it
+pub absorbing_reads : (d : ℕ) (ns : List Note) (r : PlainRecord) (l : PlainLayer) → (l.keeps ≡ true → r.reads ≡ ns) → absorbing r d l ≡ absorbing (record r { reads = ns }) d l
+absorbing_reads d ns r l h = ap (λ xs. record (absorbing r d l) { shared = xs }) (kept_same l.keeps l.shared r.reads ns h)
+
 -- what a layer is behind records, part by part
 absorbed_is : (d : ℕ) (rs : List PlainRecord) (l : PlainLayer) → absorbed d rs l ≡ record l {
   worths = contributed l.kinds l.worths rs;

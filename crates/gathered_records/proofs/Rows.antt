@@ -2,7 +2,7 @@
 use Rattle.std.proofs.Common.{◌≡◌, ℕ, zero, suc, ◌<◌, ℤ, Bool, true, List, [], ◌∷◌, ◌++◌, length, map, All, refl, sym, ap, ◌∙◌, subst, arith, take, get_or, ◌+◌, ◌-◌}
 use Rattle.std.specs.Prelude.{◌+ℤ◌, pos, slice_get, slice_set, Some, None, Option, Result, Ok, Err, IfOk, ◌≤◌}
 use Rattle.std.proofs.lemmas.Int.{ints}
-use Rattle.std.proofs.lemmas.List.{append-nil, length-set, set-set, take_all, take_more}
+use Rattle.std.proofs.lemmas.List.{append-nil, length-set, set-set, take_more}
 use Rattle.std.proofs.lemmas.List.Elements.{All-head, All-tail}
 use Rattle.monoid_laws.specs.declared.Kind.{Kind}
 use Rattle.monoid_laws.specs.Kinds.{IsMonoid}
@@ -10,8 +10,9 @@ use Rattle.meaning.specs.Elision.{depth_limit}
 use Rattle.meaning.specs.Every.{every}
 use Rattle.record_theory.specs.Record.{PlainRecord, as_made}
 use Rattle.record_theory.specs.Named.{HasValuesIfAnswers, HaveValues}
-use Rattle.record_theory.specs.Sums.{IsSumOf, arguments_of_last}
+use Rattle.record_theory.specs.Sums.{arguments_of_last}
 use Rattle.gathered_records.specs.Summing.{PlainSum, at_places, got_before, added, summed, HasSummed}
+use Rattle.rerun_records.specs.Sums.{IsSumFor}
 use Rattle.rerun_records.specs.Blocks.{PlainBlock, AreLeaves, BlockFits, is_fresh_at}
 use Rattle.gathered_records.specs.Gathering.{PlainRow, moved_to, IsThere, AreInRow, IsPart}
 use Rattle.record_theory.proofs.Members.{both, every_append}
@@ -153,9 +154,9 @@ module _ (rs : List PlainRecord) (row : PlainRow) (first : ℤ) (ps : List ℕ) 
   row_count = leaves_count (map as_made rs) row.procedure row.arguments row.counted first ps (at_places (map as_made rs) ps) h.leaves
 
   -- a block of them
-  pub block_fits : (kinds : List Kind) (s : PlainRecord) (counted : ℕ) → counted ≡ row.counted → counted < length row.arguments → IsSumOf kinds (at_places (map as_made rs) ps) s
-      → BlockFits kinds rs (record { places = ps; counted = counted; sum = s })
-  block_fits kinds s counted e within is = record {
+  pub block_fits : (kinds : List Kind) (keeps : Bool) (s : PlainRecord) (counted : ℕ) → counted ≡ row.counted → counted < length row.arguments → IsSumFor keeps kinds (at_places (map as_made rs) ps) s
+      → BlockFits kinds rs (record { places = ps; counted = counted; keeps = keeps; sum = s })
+  block_fits kinds keeps s counted e within is = record {
     procedure = row.procedure;
     arguments = slice_set row.arguments counted first;
     first = first;
@@ -179,11 +180,11 @@ module _ (rs : List PlainRecord) (row : PlainRow) (first : ℤ) (ps : List ℕ) 
     part_in_row : AreInRow rs row first (ps ++ b.places)
     part_in_row = in_row_more b.places part.fits.leaves part_leaves part.fits.fresh
 
-    part_summed : (s : PlainSum) → All IsMonoid kinds → HasSummed kinds (at_places (map as_made rs) ps) s → HasSummed kinds (at_places (map as_made rs) (ps ++ b.places)) (added kinds s b.sum)
-    part_summed s monoids m =
+    part_summed : (s : PlainSum) → All IsMonoid kinds → (s.keeps ≡ true → b.keeps ≡ true) → HasSummed kinds (at_places (map as_made rs) ps) s → HasSummed kinds (at_places (map as_made rs) (ps ++ b.places)) (added kinds s b.sum)
+    part_summed s monoids read m =
         subst (λ xs. HasSummed kinds xs (added kinds s b.sum))
         (ap (λ ys. at_places (map as_made rs) ps ++ ys) (sym (leaves_are (map as_made rs) row.procedure row.arguments row.counted (first +ℤ pos (length ps)) b.places part.fits.leaves part_leaves)) ∙ sym (at_more (map as_made rs) ps b.places))
-        (one_part_more kinds (at_places (map as_made rs) ps) part.fits.leaves s b.sum monoids m part.fits.sum_is)
+        (one_part_more kinds (at_places (map as_made rs) ps) part.fits.leaves s b.sum b.keeps monoids m part.fits.sum_is read)
 
 pub moved_twice : (row : PlainRow) (n z : ℤ) → moved_to (moved_to row n) z ≡ moved_to row z
 moved_twice row n z = ap (λ (zs : List ℤ). record row { arguments = zs }) (set-set row.arguments row.counted n z)
@@ -226,10 +227,10 @@ module _ (rs : List PlainRecord) (row other : PlainRow) (first : ℤ) (ps more :
       subst (AreInRow rs other first) (sym is)
       (in_row_moved rs row other first (ps ++ b.places) (λ z. sym (ap (λ r. moved_to r z) moved ∙ moved_twice row (first +ℤ pos n) z)) (part_in_row rs row first ps h kinds b there inside))
 
-  pub next_summed : (s new : PlainSum) → All IsMonoid kinds → new ≡ added kinds s b.sum → HasSummed kinds (at_places (map as_made rs) ps) s → HasSummed kinds (at_places (map as_made rs) more) new
-  next_summed s new monoids e m =
+  pub next_summed : (s new : PlainSum) → All IsMonoid kinds → (s.keeps ≡ true → b.keeps ≡ true) → new ≡ added kinds s b.sum → HasSummed kinds (at_places (map as_made rs) ps) s → HasSummed kinds (at_places (map as_made rs) more) new
+  next_summed s new monoids read e m =
       subst (λ qs. HasSummed kinds (at_places (map as_made rs) qs) new) (sym is)
-      (subst (HasSummed kinds (at_places (map as_made rs) (ps ++ b.places))) (sym e) (part_summed rs row first ps h kinds b there inside s monoids m))
+      (subst (HasSummed kinds (at_places (map as_made rs) (ps ++ b.places))) (sym e) (part_summed rs row first ps h kinds b there inside s monoids read m))
 
 -- ---- the sum of records at places
 
@@ -261,9 +262,9 @@ last_of vs rs (q ∷ n ∷ ps) p r e at =
 
 -- the record made of the sum, where memory for it was there
 pub sum_over : {E : Type 0} (made : Result PlainRecord E) (kinds : List Kind) (rs : List PlainRecord) (s : PlainSum) (last : PlainRecord) → 0 < length rs → arguments_of_last [] rs ≡ last.arguments
-    → HasSummed kinds rs s → IfOk made (λ x. x ≡ summed s last) → IfOk made (λ x. IsSumOf kinds rs x)
+    → HasSummed kinds rs s → IfOk made (λ x. x ≡ summed s last) → IfOk made (λ x. IsSumFor s.keeps kinds rs x)
 sum_over (Err e) kinds rs s last some ends h is = tt
-sum_over (Ok x) kinds rs s last some ends h is = subst (IsSumOf kinds rs) (sym is) (sum_is kinds rs s last some ends h)
+sum_over (Ok x) kinds rs s last some ends h is = subst (IsSumFor s.keeps kinds rs) (sym is) (sum_is kinds rs s last some ends h)
 
 pub some_in_row : (rs : List PlainRecord) (row : PlainRow) (first : ℤ) (ps : List ℕ) → AreInRow rs row first ps → 0 < length ps → 0 < length (at_places (map as_made rs) ps)
 some_in_row rs row first ps in_row some = subst (λ n. 0 < n) (row_count rs row first ps in_row) some

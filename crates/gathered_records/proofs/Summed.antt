@@ -1,8 +1,8 @@
 -- A sum of records, made one record after another, and the sum of sums.
-use Rattle.std.proofs.Common.{◌≡◌, ℕ, zero, suc, ◌+◌, ◌<◌, ℤ, true, false, cond, List, [], ◌∷◌, ◌++◌, length, All, Contains, ⊎_elim, refl, sym, ap, ◌∙◌, subst, arith, append_assoc, map, drop, get_or, set}
+use Rattle.std.proofs.Common.{◌≡◌, ℕ, zero, suc, ◌+◌, ◌<◌, Bool, true, false, cond, List, [], ◌∷◌, ◌++◌, length, All, Contains, ⊎_elim, refl, sym, ap, ◌∙◌, subst, arith, append_assoc, map, drop, get_or, set}
 use Rattle.std.specs.Prelude.{max, nat_eq, slice_get, slice_set, Some, ◌||◌}
 use Rattle.std.specs.List.{flat_map, list_any}
-use Rattle.std.proofs.lemmas.List.{append-nil, drop_more, get_or-map, length-map, map-append, map-set}
+use Rattle.std.proofs.lemmas.List.{append-nil, drop_more, get_or-map, length-map, map-set}
 use Rattle.std.proofs.lemmas.Grind.{flat_map-append}
 use Rattle.std.proofs.Math.Seq.{set-append_seam}
 use Rattle.std.proofs.lemmas.List.Elements.{Contains-append_left, Contains-append_right, Contains-append_cases}
@@ -15,7 +15,8 @@ use Rattle.monoid_laws.proofs.Rows.{operate_all_identities, operate_all_assoc, o
 use Rattle.record_theory.specs.Record.{PlainRecord, touched}
 use Rattle.record_theory.specs.Named.{filled, SameMembers, IsValueAt, AreValuesFrom}
 use Rattle.record_theory.specs.Sums.{IsSumOf, contributed, highest, arguments_of_last}
-use Rattle.gathered_records.specs.Summing.{PlainSum, same_entry, put_entry, put_entries, worth_in, numbered_from, summed, nothing_summed, added, HasSummed}
+use Rattle.rerun_records.specs.Sums.{with_reads, IsSumFor}
+use Rattle.gathered_records.specs.Summing.{PlainSum, kept_reads, same_entry, put_entry, put_entries, worth_in, numbered_from, summed, nothing_summed, added, HasSummed}
 use Rattle.record_theory.proofs.Absorbed.{each, same_at, filled_right}
 use Rattle.record_theory.proofs.Members.{left_is, right_is}
 use Rattle.record_theory.proofs.Singles.{sum_of_one}
@@ -170,38 +171,44 @@ module _ (kinds : List Kind) where
   contributed_append ws [] ss = refl
   contributed_append ws (r ∷ rs) ss = contributed_append (operate_all kinds ws (filled (identities kinds) r.contribution)) rs ss
 
-  pub nothing_summed_so : All IsMonoid kinds → HasSummed kinds [] (nothing_summed kinds)
-  nothing_summed_so monoids = record { worths = λ ws are. operate_all_identities kinds ws monoids are; right = AreWorths-identities kinds; reads = refl; entered = members_same [] [] refl; height = refl }
+  pub nothing_summed_so : (keeps : Bool) → All IsMonoid kinds → HasSummed kinds [] (nothing_summed kinds keeps)
+  nothing_summed_so keeps monoids = record { worths = λ ws are. operate_all_identities kinds ws monoids are; right = AreWorths-identities kinds; reads = λ k. refl; entered = members_same [] [] refl; height = refl }
 
-  -- one part more, which is the sum of some records
-  pub one_part_more : (rs qs : List PlainRecord) (s : PlainSum) (part : PlainRecord) → All IsMonoid kinds → HasSummed kinds rs s → IsSumOf kinds qs part → HasSummed kinds (rs ++ qs) (added kinds s part)
-  one_part_more rs qs s part monoids h is = record {
+  -- one part more, which is the sum of some records, and has what they have read where that is kept
+  pub one_part_more : (rs qs : List PlainRecord) (s : PlainSum) (part : PlainRecord) (has : Bool) → All IsMonoid kinds → HasSummed kinds rs s → IsSumFor has kinds qs part → (s.keeps ≡ true → has ≡ true) → HasSummed kinds (rs ++ qs) (added kinds s part)
+  one_part_more rs qs s part has monoids h is read = record {
     worths = λ ws are.
-        sym (operate_all_assoc kinds ws s.worths (given kinds part) monoids are h.right (given_right kinds part is.values))
-        ∙ is.worths (operate_all kinds ws s.worths) (operate_all_right kinds ws s.worths are h.right)
+        sym (operate_all_assoc kinds ws s.worths (given kinds part) monoids are h.right (given_right kinds part is.sum_is.values))
+        ∙ is.sum_is.worths (operate_all kinds ws s.worths) (operate_all_right kinds ws s.worths are h.right)
         ∙ ap (λ us. contributed kinds us qs) (h.worths ws are)
         ∙ sym (contributed_append ws rs qs);
-    right = operate_all_right kinds s.worths (given kinds part) h.right (given_right kinds part is.values);
-    reads = ap (λ ns. ns ++ part.reads) h.reads ∙ ap (λ ns. flat_map (λ r. r.reads) rs ++ ns) is.reads ∙ sym (flat_map-append (λ r. r.reads) rs qs);
+    right = operate_all_right kinds s.worths (given kinds part) h.right (given_right kinds part is.sum_is.values);
+    reads = λ keeps.
+        ap (λ b. kept_reads b s.reads part.reads) keeps ∙ ap (λ ns. ns ++ part.reads) (h.reads keeps)
+        ∙ ap (λ ns. flat_map (λ r. r.reads) rs ++ ns) (is.has (read keeps) ∙ is.sum_is.reads) ∙ sym (flat_map-append (λ r. r.reads) rs qs);
     entered =
         members_then (put_entries s.entered part.entered) (s.entered ++ part.entered) (flat_map (λ r. r.entered) (rs ++ qs)) (entries_members s.entered part.entered)
         (members_then (s.entered ++ part.entered) (flat_map (λ r. r.entered) rs ++ flat_map (λ r. r.entered) qs) (flat_map (λ r. r.entered) (rs ++ qs))
-        (members_append s.entered (flat_map (λ r. r.entered) rs) part.entered (flat_map (λ r. r.entered) qs) h.entered is.entered)
+        (members_append s.entered (flat_map (λ r. r.entered) rs) part.entered (flat_map (λ r. r.entered) qs) h.entered is.sum_is.entered)
         (members_same (flat_map (λ r. r.entered) rs ++ flat_map (λ r. r.entered) qs) (flat_map (λ r. r.entered) (rs ++ qs)) (sym (flat_map-append (λ r. r.entered) rs qs))));
-    height = ap (λ n. max n part.height) h.height ∙ ap (max (highest rs)) is.height ∙ sym (height_append rs qs);
+    height = ap (λ n. max n part.height) h.height ∙ ap (max (highest rs)) is.sum_is.height ∙ sym (height_append rs qs);
   }
 
   pub one_record_more : (rs : List PlainRecord) (s : PlainSum) (r : PlainRecord) → All IsMonoid kinds → AreValuesFrom 0 kinds r.contribution → HasSummed kinds rs s → HasSummed kinds (rs ++ r ∷ []) (added kinds s r)
-  one_record_more rs s r monoids v h = one_part_more rs (r ∷ []) s r monoids h (sum_of_one kinds r v)
+  one_record_more rs s r monoids v h = one_part_more rs (r ∷ []) s r true monoids h (record { reads = r.reads; sum_is = sum_of_one kinds r v; has = λ k. refl }) (λ keeps. refl)
 
-  -- the record of the sum of some records
-  pub sum_is : (rs : List PlainRecord) (s : PlainSum) (last : PlainRecord) → 0 < length rs → arguments_of_last [] rs ≡ last.arguments → HasSummed kinds rs s → IsSumOf kinds rs (summed s last)
-  sum_is [] s last l e h = absurd (omega (arith, l))
-  sum_is (r ∷ rs) s last l e h = record {
+  with_read : (rs : List PlainRecord) (s : PlainSum) (last : PlainRecord) → 0 < length rs → arguments_of_last [] rs ≡ last.arguments → HasSummed kinds rs s
+      → IsSumOf kinds rs (with_reads (flat_map (λ r. r.reads) rs) (summed s last))
+  with_read [] s last l e h = absurd (omega (arith, l))
+  with_read (r ∷ rs) s last l e h = record {
     worths = λ ws are. ap (operate_all kinds ws) (all_filled [] (identities kinds) s.worths 0 refl (identities_length kinds ∙ each kinds s.worths h.right)) ∙ h.worths ws are;
     values = numbered_values [] kinds 0 s.worths refl h.right;
-    reads = h.reads;
+    reads = refl;
     entered = h.entered;
     height = h.height;
     arguments = λ vs. e;
   }
+
+  -- the record of the sum of some records
+  pub sum_is : (rs : List PlainRecord) (s : PlainSum) (last : PlainRecord) → 0 < length rs → arguments_of_last [] rs ≡ last.arguments → HasSummed kinds rs s → IsSumFor s.keeps kinds rs (summed s last)
+  sum_is rs s last l e h = record { reads = flat_map (λ r. r.reads) rs; sum_is = with_read rs s last l e h; has = h.reads }

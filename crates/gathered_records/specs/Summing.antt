@@ -1,5 +1,5 @@
 -- A sum of records as it is made, one record after another.
-use Rattle.std.specs.Prelude.{◌≡◌, ℕ, suc, nat_eq, max, Bool, ◌&&◌, cond, List, [], ◌∷◌, ◌++◌, Option, Some, None, slice_get}
+use Rattle.std.specs.Prelude.{◌≡◌, ℕ, suc, nat_eq, max, Bool, true, false, ◌&&◌, cond, List, [], ◌∷◌, ◌++◌, Option, Some, None, slice_get}
 use Rattle.std.specs.List.{flat_map, list_any}
 use Rattle.monoid_laws.specs.Worth.{Worth}
 use Rattle.monoid_laws.specs.declared.Kind.{Kind}
@@ -10,8 +10,10 @@ use Rattle.record_theory.specs.Record.{PlainRecord}
 use Rattle.record_theory.specs.Named.{filled, SameMembers}
 use Rattle.record_theory.specs.Sums.{contributed, highest}
 
--- what the records have together so far: the values of all reducers, what was read and entered, and the greatest height
+-- what the records have together so far: whether readings are kept, the values of all reducers, what was read and entered, and the
+-- greatest height
 pub record PlainSum : Type 0 where
+  pub keeps : Bool
   pub worths : List Worth
   pub reads : List Note
   pub entered : List (ℕ × ℕ)
@@ -27,6 +29,11 @@ put_entry es e = cond (list_any (same_entry e) es) es (es ++ e ∷ [])
 abbrev pub put_entries : List (ℕ × ℕ) → List (ℕ × ℕ) → List (ℕ × ℕ)
 put_entries es [] = es
 put_entries es (d ∷ ds) = put_entries (put_entry es d) ds
+
+-- readings, and others behind them where they are kept
+abbrev pub kept_reads : Bool → List Note → List Note → List Note
+kept_reads true ns ms = ns ++ ms
+kept_reads false ns ms = ns
 
 -- the value that stands behind a number
 abbrev pub worth_in : ℕ × Val → Worth
@@ -53,24 +60,25 @@ summed s last = record {
 -- for reducers of these kinds
 module _ (kinds : List Kind) where
   -- of no records
-  abbrev pub nothing_summed : PlainSum
-  nothing_summed = record { worths = identities kinds; reads = []; entered = []; height = 0 }
+  abbrev pub nothing_summed : Bool → PlainSum
+  nothing_summed keeps = record { keeps = keeps; worths = identities kinds; reads = []; entered = []; height = 0 }
 
   -- with one record more
   abbrev pub added : PlainSum → PlainRecord → PlainSum
   added s r =
       record {
+        keeps = s.keeps;
         worths = operate_all kinds s.worths (filled (identities kinds) r.contribution);
-        reads = s.reads ++ r.reads;
+        reads = kept_reads s.keeps s.reads r.reads;
         entered = put_entries s.entered r.entered;
         height = max s.height r.height;
       }
 
-  -- it has what the records have, one after another, whatever values go before them
+  -- it has what the records have, one after another, whatever values go before them; what they have read where that is kept
   pub record HasSummed (rs : List PlainRecord) (s : PlainSum) : Type 0 where
     pub worths : (ws : List Worth) → AreWorths kinds ws → operate_all kinds ws s.worths ≡ contributed kinds ws rs
     pub right : AreWorths kinds s.worths
-    pub reads : s.reads ≡ flat_map (λ r. r.reads) rs
+    pub reads : s.keeps ≡ true → s.reads ≡ flat_map (λ r. r.reads) rs
     pub entered : SameMembers s.entered (flat_map (λ r. r.entered) rs)
     pub height : s.height ≡ highest rs
 

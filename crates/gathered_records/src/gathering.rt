@@ -6,6 +6,7 @@ ghost use Rattle.rerun_records.specs.Blocks.{is_fresh_at};
 ghost use Rattle.gathered_records.specs.Gathering.{moved_to, IsThere, AreInRow};
 
 use crate::bounds::{PARTS, bounds_at, part_above};
+use crate::nesting::may_nest;
 use crate::row::Row;
 use crate::stretch::{Bounds, Stretches};
 use crate::sums::sum_at;
@@ -49,15 +50,25 @@ fn gather_due(
     requires values { HaveValues program.now.kinds records.old }
     ensures same { records.new ≡ records.old }
 {
+    if !are_all && places.is_empty() {
+        return Ok(());
+    }
+    // What records have read is kept by layers of memo instances alone that have others inside.
+    let keeps = may_nest(program.codes());
     if are_all {
-        gather_all(records, alloc, program)
+        gather_all(records, alloc, keeps, program)
     } else {
-        gather_these(records, alloc, places, program)
+        gather_these(records, alloc, keeps, places, program)
     }
 }
 
 // Makes the blocks of all records. Wider ones are looked for at the fine ones that were made.
-fn gather_all(records: &mut Records, alloc: Global, program: &Checked) -> Result<(), AllocError>
+fn gather_all(
+    records: &mut Records,
+    alloc: Global,
+    keeps: bool,
+    program: &Checked,
+) -> Result<(), AllocError>
     requires monoids { All IsMonoid program.now.kinds }
     requires values { HaveValues program.now.kinds records.old }
     ensures same { records.new ≡ records.old }
@@ -65,14 +76,23 @@ fn gather_all(records: &mut Records, alloc: Global, program: &Checked) -> Result
     let all = places_to(alloc, records.len())?;
     let mut stretches = Stretches::new(alloc);
     let mut made = Vec::new(alloc);
-    make_fine(records, alloc, &all, &mut stretches, &mut made, program)?;
-    make_all_wider(records, alloc, &made, &mut stretches, program)
+    make_fine(
+        records,
+        alloc,
+        keeps,
+        &all,
+        &mut stretches,
+        &mut made,
+        program,
+    )?;
+    make_all_wider(records, alloc, keeps, &made, &mut stretches, program)
 }
 
 // Gathers the records at these places: first into fine blocks, then these into wider ones.
 fn gather_these(
     records: &mut Records,
     alloc: Global,
+    keeps: bool,
     places: &[u32],
     program: &Checked,
 ) -> Result<(), AllocError>
@@ -82,14 +102,23 @@ fn gather_these(
 {
     let mut stretches = Stretches::new(alloc);
     let mut made = Vec::new(alloc);
-    make_fine(records, alloc, places, &mut stretches, &mut made, program)?;
-    make_all_wider(records, alloc, places, &mut stretches, program)
+    make_fine(
+        records,
+        alloc,
+        keeps,
+        places,
+        &mut stretches,
+        &mut made,
+        program,
+    )?;
+    make_all_wider(records, alloc, keeps, places, &mut stretches, program)
 }
 
 // Makes blocks of all widths but the finest that have the records at these places as part.
 fn make_all_wider(
     records: &mut Records,
     alloc: Global,
+    keeps: bool,
     places: &[u32],
     stretches: &mut Stretches,
     program: &Checked,
@@ -97,18 +126,43 @@ fn make_all_wider(
     requires monoids { All IsMonoid program.now.kinds }
     ensures same { records.new ≡ records.old }
 {
-    make_wider(records, alloc, Width::Middle, places, stretches, program)?;
-    make_wider(records, alloc, Width::Wide, places, stretches, program)?;
+    make_wider(
+        records,
+        alloc,
+        keeps,
+        Width::Middle,
+        places,
+        stretches,
+        program,
+    )?;
+    make_wider(
+        records,
+        alloc,
+        keeps,
+        Width::Wide,
+        places,
+        stretches,
+        program,
+    )?;
     if records.len() < MANY {
         return Ok(());
     }
-    make_wider(records, alloc, Width::Vast, places, stretches, program)
+    make_wider(
+        records,
+        alloc,
+        keeps,
+        Width::Vast,
+        places,
+        stretches,
+        program,
+    )
 }
 
 // Makes fine blocks that have the records at these places as part, and notes the first place of each.
 fn make_fine(
     records: &mut Records,
     alloc: Global,
+    keeps: bool,
     places: &[u32],
     stretches: &mut Stretches,
     made: &mut Vec<u32>,
@@ -118,7 +172,7 @@ fn make_fine(
     requires values { HaveValues program.now.kinds records.old }
     ensures same { records.new ≡ records.old }
 {
-    let mut tried = Tried::new(alloc, records.len(), places.len())?;
+    let mut tried = Tried::new(alloc, records.len(), places.len(), keeps)?;
     for place in places {
         gather_at(
             records,
@@ -137,6 +191,7 @@ fn make_fine(
 fn make_wider(
     records: &mut Records,
     alloc: Global,
+    keeps: bool,
     width: Width,
     places: &[u32],
     stretches: &mut Stretches,
@@ -145,7 +200,7 @@ fn make_wider(
     requires monoids { All IsMonoid program.now.kinds }
     ensures same { records.new ≡ records.old }
 {
-    let mut tried = Tried::new(alloc, records.len(), places.len())?;
+    let mut tried = Tried::new(alloc, records.len(), places.len(), keeps)?;
     for place in places {
         widen_at(
             records,
@@ -238,8 +293,9 @@ fn gather_row(
         return Ok(());
     }
     made.push(places[0])?;
-    let sum = sum_at(alloc, program.kinds(), records.as_slice(), &places)?;
-    let block = Block::new(places, row.counted(), sum);
+    let keeps = tried.keeps_reads();
+    let sum = sum_at(alloc, program.kinds(), keeps, records.as_slice(), &places)?;
+    let block = Block::new(places, row.counted(), keeps, sum);
     records.add_block(alloc, Width::Fine, program.kinds(), block)
 }
 

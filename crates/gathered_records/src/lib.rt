@@ -3,6 +3,7 @@
 
 mod bounds;
 pub mod gathering;
+mod nesting;
 mod row;
 mod stretch;
 mod sums;

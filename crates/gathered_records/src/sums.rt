@@ -9,10 +9,12 @@ ghost use Rattle.meaning.specs.Elision.{depth_limit};
 ghost use Rattle.record_theory.specs.Record.{PlainRecord, touched};
 ghost use Rattle.record_theory.specs.Named.{filled, AreValuesFrom, HaveValues};
 ghost use Rattle.instance_records.specs.ShortLists.{items_in};
-ghost use Rattle.record_theory.specs.Sums.{IsSumOf, arguments_of_last};
-ghost use Rattle.gathered_records.specs.Summing.{nothing_summed, added, summed, worth_in, same_entry, put_entry, put_entries};
+ghost use Rattle.record_theory.specs.Sums.{arguments_of_last};
+ghost use Rattle.rerun_records.specs.Sums.{IsSumFor};
+ghost use Rattle.gathered_records.specs.Summing.{nothing_summed, kept_reads, added, summed, worth_in, same_entry, put_entry, put_entries};
 ghost use Rattle.gathered_records.specs.Summing.{numbered_from, at_places, HasSummed};
 
+use instance_records::readings::Readings;
 use instance_records::record::Record;
 use instance_records::several::Several;
 use instance_records::short_list::ShortList;
@@ -29,6 +31,8 @@ const MOST: usize = 64;
 /// What records have together so far: it begins with none, and each is added behind those before it.
 #[derive(Drop)]
 pub(crate) struct Sum {
+    // Whether readings are kept.
+    keeps: bool,
     // The value of each reducer behind its number.
     values: Vec<(usize, Val)>,
     reads: Several,
@@ -44,6 +48,7 @@ impl Model for Sum {
     ghost Value = { PlainSum };
 
     ghost view = { λ s. record {
+      keeps = s.keeps;
       worths = map worth_in s.values.items;
       reads = s.reads;
       entered = items_in s.entered;
@@ -52,22 +57,31 @@ impl Model for Sum {
 }
 
 impl Sum {
-    /// Of no records, for reducers of these kinds, with room for what so many records have read that have two readings each, and so many
-    /// others.
+    /// Of no records, for reducers of these kinds. Readings are kept or not: if they are, with room for those of so many records that have
+    /// two each, and of so many others.
     pub(crate) fn new(
         alloc: Global,
         kinds: &[Kind],
+        keeps: bool,
         records: usize,
         parts: usize,
     ) -> Result<Sum, AllocError>
-        ensures none { IfOk result (λ s. s ≡ nothing_summed kinds.now) }
+        ensures none { IfOk result (λ s. s ≡ nothing_summed kinds.now keeps) }
     {
         Ok(Sum {
+            keeps,
             values: units(alloc, kinds)?,
-            reads: Several::new(alloc, records, parts)?,
+            reads: Several::new(alloc, room_if(keeps, records), room_if(keeps, parts))?,
             entered: ShortList::new(Vec::new(alloc)),
             height: 0,
         })
+    }
+
+    /// Whether readings are kept.
+    pub(crate) fn keeps(&self) -> bool
+        ensures keeps { result ≡ self.now.keeps }
+    {
+        self.keeps
     }
 
     /// Adds a record behind the others. It is refused for want of memory, or where a value has grown past what a sum keeps; the
@@ -85,7 +99,7 @@ impl Sum {
         ensures added { OnOk result (self.new ≡ added kinds.now self.old record.now) }
     {
         add_values(&mut self.values, alloc, kinds, record.contribution())?;
-        self.reads.add(record.reads())?;
+        add_reads(self.keeps, &mut self.reads, record.reads())?;
         add_entries(alloc, &mut self.entered, record.entered())?;
         self.height = self.height.max(record.height());
         Ok(())
@@ -113,21 +127,38 @@ impl Sum {
     }
 }
 
-/// The record that has what those at these places have together; refused as `Sum::add` is.
+// That room, where readings are kept.
+fn room_if(keeps: bool, room: usize) -> usize {
+    if keeps { room } else { 0 }
+}
+
+/// Puts what a record has read behind the others, where that is kept.
+#[inline(always)]
+fn add_reads(keeps: bool, reads: &mut Several, more: &Readings) -> Result<(), AllocError>
+    ensures added { OnOk result (reads.new ≡ kept_reads keeps reads.old more.now) }
+{
+    if !keeps {
+        return Ok(());
+    }
+    reads.add(more)
+}
+
+/// The record that has what those at these places have together, and what they have read where that is kept; refused as `Sum::add` is.
 #[inline(never)]
 pub(crate) fn sum_at(
     alloc: Global,
     kinds: &[Kind],
+    keeps: bool,
     records: &[Record],
     places: &[u32],
 ) -> Result<Record, AllocError>
     requires monoids { All IsMonoid kinds.now }
     requires values { HaveValues kinds.now records.now }
     requires some { 0 < length (at_places records.now places.now) }
-    ensures sum { IfOk result (λ s. IsSumOf kinds.now (at_places records.now places.now) s) }
+    ensures sum { IfOk result (λ s. IsSumFor keeps kinds.now (at_places records.now places.now) s) }
 {
     let (pairs, parts) = rooms_for(records, places);
-    let mut sum = Sum::new(alloc, kinds, pairs, parts)?;
+    let mut sum = Sum::new(alloc, kinds, keeps, pairs, parts)?;
     for place in places {
         add_record(&mut sum, alloc, kinds, records, *place as usize)?;
     }
@@ -158,7 +189,7 @@ pub(crate) fn finish_at(
 ) -> Result<Record, AllocError>
     requires some { 0 < length (at_places records.now places.now) }
     requires summed { HasSummed _kinds.now (at_places records.now places.now) sum }
-    ensures sum { IfOk result (λ s. IsSumOf _kinds.now (at_places records.now places.now) s) }
+    ensures sum { IfOk result (λ s. IsSumFor sum.keeps _kinds.now (at_places records.now places.now) s) }
 {
     match last_at(records, places) {
         Some(last) => sum.finish(alloc, last),
@@ -211,6 +242,7 @@ fn add_record(
         → OnOk result (sum.new ≡ added kinds.now sum.old r) }
     ensures low { (r : PlainRecord) → slice_get records.now place ≡ Some r
         → OnOk result (r.height ≤ depth_limit) }
+    ensures keeps { OnOk result (sum.new.keeps ≡ sum.old.keeps) }
 {
     match records.get(place) {
         Some(record) if record.height() <= DEPTH_LIMIT => sum.add(alloc, kinds, record),

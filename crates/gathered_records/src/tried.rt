@@ -23,11 +23,17 @@ pub(crate) struct Tried {
     pages: Vec<Vec<u64>>,
     notes: bool,
     notes_blocks: bool,
+    keeps_reads: bool,
 }
 
 impl Tried {
-    /// None of so many places was tried, of which so many will be asked.
-    pub(crate) fn new(alloc: Global, places: usize, asked: usize) -> Result<Tried, AllocError> {
+    /// None of so many places was tried, of which so many will be asked, for blocks that keep what their records have read or don't.
+    pub(crate) fn new(
+        alloc: Global,
+        places: usize,
+        asked: usize,
+        keeps_reads: bool,
+    ) -> Result<Tried, AllocError> {
         let notes = asked > FEW;
         let mut pages = Vec::new(alloc);
         if notes {
@@ -39,7 +45,13 @@ impl Tried {
             pages,
             notes,
             notes_blocks: notes && asked > places / SPARSE,
+            keeps_reads,
         })
+    }
+
+    /// Whether blocks keep what their records have read.
+    pub(crate) fn keeps_reads(&self) -> bool {
+        self.keeps_reads
     }
 
     /// Whether many places are asked.
@@ -127,13 +139,11 @@ fn bits_between(word: usize, first: usize, last: usize) -> u64 {
     bits
 }
 
-// Whether these places are that one and those behind it, one after another.
+// Whether these places are that one and those behind it, one after another, as far as the last one tells.
 fn are_in_row(places: &[u32], first: u32) -> bool {
-    let mut next = first;
-    let mut differing = 0;
-    for place in places {
-        differing |= *place ^ next;
-        next = next.wrapping_add(1);
+    match places.last() {
+        Some(last) => *last as usize
+            == (first as usize).saturating_add(places.len().saturating_sub(1)),
+        None => false,
     }
-    differing == 0
 }

@@ -139,7 +139,7 @@ fn widen_row(
     let most = bounds.count_from(first);
     let mut joined = Joined {
         places: Vec::with_capacity(alloc, most.min(PLACES))?,
-        sum: Sum::new(alloc, kinds, 0, ROOM)?,
+        sum: Sum::new(alloc, kinds, tried.keeps_reads(), 0, ROOM)?,
         most,
     };
     join_parts(records, alloc, width, row, first, kinds, &mut joined)?;
@@ -167,8 +167,9 @@ fn add_wide(
 {
     let counted = row.counted();
     let Joined { places, sum, .. } = joined;
+    let keeps = sum.keeps();
     let sum = finish_at(alloc, sum, kinds, records.as_slice(), &places)?;
-    let block = Block::new(places, counted, sum);
+    let block = Block::new(places, counted, keeps, sum);
     records.add_block(alloc, width, kinds, block)
 }
 
@@ -214,7 +215,7 @@ fn join_parts(
 ) -> Result<(), AllocError>
     requires monoids { All IsMonoid kinds.now }
     requires none { joined.old.places.items ≡ [] }
-    requires nothing { joined.old.sum ≡ nothing_summed kinds.now }
+    requires nothing { joined.old.sum ≡ nothing_summed kinds.now joined.old.sum.keeps }
     ensures row { OnOk result (AreInRow records.now row.new first joined.new.places.items) }
     ensures summed { OnOk result (
         HasSummed kinds.now (at_places (map as_made records.now) joined.new.places.items) joined.new.sum) }
@@ -267,7 +268,7 @@ fn part_next<'a>(
     }
 }
 
-// Puts a block's places behind others, and adds what its records have together.
+// Puts a block's places behind others, and adds what its records have together; refused where readings are kept and the block has none.
 fn put_part(
     alloc: Global,
     block: &Block,
@@ -279,7 +280,11 @@ fn put_part(
     requires values { AreValuesFrom 0 kinds.now block.now.sum.contribution }
     ensures places { OnOk result (joined.new.places.items ≡ joined.old.places.items ++ block.now.places) }
     ensures added { OnOk result (joined.new.sum ≡ added kinds.now joined.old.sum block.now.sum) }
+    ensures read { OnOk result (joined.old.sum.keeps ≡ true → block.now.keeps ≡ true) }
 {
+    if joined.sum.keeps() && !block.keeps() {
+        return Err(AllocError);
+    }
     joined.places.extend_from_slice(block.places())?;
     joined.sum.add(alloc, kinds, block.sum())
 }

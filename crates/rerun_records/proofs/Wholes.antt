@@ -1,5 +1,5 @@
 -- What a block answers, its records answer one by one.
-use Rattle.std.proofs.Common.{◌≡◌, ℕ, zero, suc, ◌<◌, ◌≤◌, ◌+◌, ℤ, pos, true, false, true≢false, cond, not, List, [], ◌∷◌, map, length, Some, None, refl, sym, ap, ◌∙◌, subst, arith}
+use Rattle.std.proofs.Common.{◌≡◌, ℕ, zero, suc, ◌<◌, ◌≤◌, ◌+◌, ℤ, pos, Bool, true, false, true≢false, cond, not, List, [], ◌∷◌, map, length, Some, None, refl, sym, ap, ◌∙◌, subst, arith}
 use Rattle.std.specs.Prelude.{◌&&◌, ◌+ℤ◌, max, nat_eq, nat_le, slice_get, slice_set}
 use Rattle.std.specs.Cmp.Lexicographic.{pointwise}
 use Rattle.std.specs.List.{find, flat_map, position_or_len, AllByRecursion, IsDistinct}
@@ -19,6 +19,7 @@ use Rattle.record_theory.specs.InStep.{IsInStep}
 use Rattle.record_theory.specs.Sums.{highest}
 use Rattle.record_theory.specs.Validity.{note_agrees, has_revision, record_valid, only_valid, valid_at}
 use Rattle.record_theory.specs.Batches.{AreValidFrom, IsBatch}
+use Rattle.rerun_records.specs.Sums.{with_reads, IsBatchFor}
 use Rattle.rerun_records.specs.Blocks.{PlainBlock, is_fresh, is_fresh_at, AreLeaves, BlockFits, Answers}
 use Rattle.record_theory.proofs.Members.{left_is, right_is, both, every_member, every_append}
 use Rattle.record_theory.proofs.Singles.{is_le, set_itself}
@@ -129,18 +130,18 @@ first_leaf rs procedure arguments counted v (p ∷ ps) (m ∷ ms) place k a e f 
     let leaf : m ≡ k = cc (there) in
     (ap (λ (r : PlainRecord). r.procedure) (sym leaf) ∙ a.0.procedure_is, ap (λ (r : PlainRecord). r.arguments) (sym leaf) ∙ a.0.arguments_are, omega arith)
 
-pub batch_of_block : (program : PlainChecked) (tables : Tables) (depth : ℕ) (rs : List PlainRecord) (place counted most : ℕ) (k : PlainRecord) (b : PlainBlock) → AreSingle rs → IsInStep tables rs
-    → slice_get (map as_made rs) place ≡ Some k → BlockFits program.kinds rs b → Answers program depth place counted most b
-    → IsBatch program tables depth rs k.procedure k.arguments counted most (length b.places) b.sum
-batch_of_block program tables depth rs place counted most k b single h there fits answers =
+pub batch_of_block : (program : PlainChecked) (tables : Tables) (depth : ℕ) (rs : List PlainRecord) (place counted most : ℕ) (keeps : Bool) (k : PlainRecord) (b : PlainBlock) → AreSingle rs → IsInStep tables rs
+    → slice_get (map as_made rs) place ≡ Some k → BlockFits program.kinds rs b → Answers program depth place counted most keeps b
+    → IsBatchFor keeps program tables depth rs k.procedure k.arguments counted most (length b.places) b.sum
+batch_of_block program tables depth rs place counted most keeps k b single h there fits answers =
     let begun = first_leaf (map as_made rs) fits.procedure fits.arguments b.counted fits.first b.places fits.leaves place k fits.are_leaves answers.begins there in
     let same : k.arguments ≡ fits.arguments = begun.1 ∙ set_itself fits.arguments b.counted fits.first fits.first_is in
     let some : 0 < length b.places = begun.2 in
     let entered : every (has_revision program.revisions) (flat_map (λ r. r.entered) fits.leaves) ≡ true =
-    sym (every_member (has_revision program.revisions) b.sum.entered (flat_map (λ r. r.entered) fits.leaves) fits.sum_is.entered) ∙ answers.current in
-    let deep : nat_le (depth + highest fits.leaves) (suc depth_limit) ≡ true = ap (λ (n : ℕ). nat_le (depth + n) (suc depth_limit)) (sym fits.sum_is.height) ∙ answers.fits in
+    sym (every_member (has_revision program.revisions) b.sum.entered (flat_map (λ r. r.entered) fits.leaves) fits.sum_is.sum_is.entered) ∙ answers.current in
+    let deep : nat_le (depth + highest fits.leaves) (suc depth_limit) ≡ true = ap (λ (n : ℕ). nat_le (depth + n) (suc depth_limit)) (sym fits.sum_is.sum_is.height) ∙ answers.fits in
     let valid = valid_from program tables depth rs single h fits.procedure fits.arguments b.counted fits.first b.places fits.leaves fits.are_leaves fits.fresh entered deep in
-    record {
+    let batch : IsBatch program tables depth rs k.procedure k.arguments counted most (length b.places) (with_reads fits.sum_is.reads b.sum) = record {
       first = fits.first;
       first_is = ap (λ (xs : List ℤ). slice_get xs counted) same ∙ ap (slice_get fits.arguments) (sym answers.counts) ∙ fits.first_is;
       members = fits.leaves;
@@ -151,8 +152,14 @@ batch_of_block program tables depth rs place counted most k b single h there fit
           subst (λ (n : ℕ). AreValidFrom program tables depth rs k.procedure k.arguments n fits.first fits.leaves) answers.counts
           (subst (λ (xs : List ℤ). AreValidFrom program tables depth rs k.procedure xs b.counted fits.first fits.leaves) (sym same)
           (subst (λ (n : ℕ). AreValidFrom program tables depth rs n fits.arguments b.counted fits.first fits.leaves) (sym begun.0) valid));
-      sum_is = fits.sum_is;
-    }
+      sum_is = fits.sum_is.sum_is;
+    } in
+    record { reads = fits.sum_is.reads; batch = batch; has = λ asked. fits.sum_is.has (answers.read asked) }
+
+-- a record that is a batch has what was read
+pub with_all : (keeps : Bool) (program : PlainChecked) (tables : Tables) (depth : ℕ) (rs : List PlainRecord) (procedure : ℕ) (arguments : List ℤ) (counted most count : ℕ) (sum : PlainRecord)
+    → IsBatch program tables depth rs procedure arguments counted most count sum → IsBatchFor keeps program tables depth rs procedure arguments counted most count sum
+with_all keeps program tables depth rs procedure arguments counted most count sum batch = record { reads = sum.reads; batch = batch; has = λ asked. refl }
 
 -- ---- a record at a place is the one that is found
 

@@ -7,13 +7,15 @@ use Rattle.meaning.specs.Elision.{depth_limit}
 use Rattle.meaning.specs.Every.{every}
 use Rattle.monoid_laws.specs.declared.Kind.{Kind}
 use Rattle.record_theory.specs.Record.{PlainRecord, as_made}
-use Rattle.record_theory.specs.Sums.{IsSumOf}
 use Rattle.record_theory.specs.Validity.{has_revision}
+use Rattle.rerun_records.specs.Sums.{IsSumFor}
 
--- the places of records in order, which of their arguments counts up, and one record in the place of them all
+-- the places of records in order, which of their arguments counts up, and one record in the place of them all; whether it has what they
+-- have read
 pub record PlainBlock : Type 0 where
   pub places : List ℕ
   pub counted : ℕ
+  pub keeps : Bool
   pub sum : PlainRecord
 
 -- nothing that was read is counted as not held
@@ -50,7 +52,7 @@ pub record BlockFits (kinds : List Kind) (records : List PlainRecord) (block : P
   pub leaves : List PlainRecord
   pub are_leaves : AreLeaves (map as_made records) procedure arguments block.counted first block.places leaves
   pub fresh : every (is_fresh_at records) block.places ≡ true
-  pub sum_is : IsSumOf kinds leaves block.sum
+  pub sum_is : IsSumFor block.keeps kinds leaves block.sum
 
 -- ---- blocks by numbers: some were dropped
 
@@ -121,10 +123,12 @@ pub record IsBlock (kinds : List Kind) (blocks : PlainBlocks) (block : PlainBloc
   pub kinds_are : blocks.kinds ≡ kinds
   pub live : IsLive blocks.fine block ⊎ (IsLive blocks.middle block ⊎ (IsLive blocks.wide block ⊎ IsLive blocks.vast block))
 
--- the block begins at that place, counts that argument, has no more records than that, and answers an instance at that depth
-pub record Answers (program : PlainChecked) (depth place counted most : ℕ) (block : PlainBlock) : Type 0 where
+-- the block begins at that place, counts that argument, has no more records than that, and what they have read where that is kept, and
+-- answers an instance at that depth
+pub record Answers (program : PlainChecked) (depth place counted most : ℕ) (keeps : Bool) (block : PlainBlock) : Type 0 where
   pub begins : slice_get block.places 0 ≡ Some place
   pub counts : block.counted ≡ counted
   pub few : length block.places ≤ most
+  pub read : keeps ≡ true → block.keeps ≡ true
   pub current : every (has_revision program.revisions) block.sum.entered ≡ true
   pub fits : nat_le (depth + block.sum.height) (suc depth_limit) ≡ true

@@ -1,4 +1,5 @@
 pub mod Put
+pub mod Sums
 pub mod Blocks
 pub mod Covers
 pub mod Skips

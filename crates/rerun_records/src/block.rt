@@ -8,11 +8,12 @@ use linked_program::checked::Checked;
 use std::marker::Model;
 
 /// The places of records of one procedure, whose arguments go up by one in the counted one, and a record that has what theirs
-/// have together.
+/// have together: what they have read only where that is kept.
 #[derive(Drop)]
 pub struct Block {
     places: Vec<u32>,
     counted: usize,
+    keeps: bool,
     sum: Record,
 }
 
@@ -21,18 +22,19 @@ impl Model for Block {
 
     ghost Value = { PlainBlock };
 
-    ghost view = { λ b. record { places = b.places.items; counted = b.counted; sum = b.sum } };
+    ghost view = { λ b. record { places = b.places.items; counted = b.counted; keeps = b.keeps; sum = b.sum } };
 }
 
 impl Block {
-    /// A block of these places.
-    pub fn new(places: Vec<u32>, counted: usize, sum: Record) -> Block
+    /// A block of these places, whose record has what theirs have read or not.
+    pub fn new(places: Vec<u32>, counted: usize, keeps: bool, sum: Record) -> Block
         ensures block { result
-            ≡ record { places = places.items; counted = counted; sum = sum } }
+            ≡ record { places = places.items; counted = counted; keeps = keeps; sum = sum } }
     {
         Block {
             places,
             counted,
+            keeps,
             sum,
         }
     }
@@ -51,6 +53,13 @@ impl Block {
         self.counted
     }
 
+    /// Whether its record has what theirs have read.
+    pub fn keeps(&self) -> bool
+        ensures keeps { result ≡ self.now.keeps }
+    {
+        self.keeps
+    }
+
     /// Lends the record that has what they have together.
     pub fn sum(&self) -> &Record
         ensures sum { result.now ≡ self.now.sum }
@@ -58,16 +67,25 @@ impl Block {
         &self.sum
     }
 
-    /// Whether it begins at that place, counts that series' argument, has no more records than that, and its procedures and depth
-    /// allow it to answer.
+    /// Whether it begins at that place, counts that series' argument, has no more records than that, and what they have read where that
+    /// is kept, and its procedures and depth allow it to answer.
     pub(crate) fn answers(&self, place: usize, series: Series, program: &Checked) -> bool
         ensures answers { result ≡ true
-            → Answers program.now series.depth place series.counted series.most self.now }
+            → Answers program.now series.depth place series.counted series.most series.keeps self.now }
     {
         self.begins_at(place)
             && self.counted == series.counted
             && self.places.len() <= series.most as usize
+            && self.has_reads_for(series.keeps)
             && self.sum.is_allowed(series.depth, program)
+    }
+
+    // Whether it has what its records have read, where that is kept.
+    #[inline(always)]
+    fn has_reads_for(&self, keeps: bool) -> bool
+        ensures read { result ≡ true → keeps ≡ true → self.now.keeps ≡ true }
+    {
+        self.keeps || !keeps
     }
 
     /// Whether the first of its records has that place.

@@ -99,17 +99,36 @@ impl Blocks {
         self.due.note_all();
     }
 
-    /// The widest block that begins at that place and answers instances of that series, no more than those.
+    /// The widest block that begins at that place and answers instances of that series, no more than those. Where none begins, as behind
+    /// edits, nothing is called.
+    #[inline(always)]
     pub(crate) fn widest(&self, place: usize, series: Series, program: &Checked) -> Option<&Block>
         ensures block { IfSome result (λ b. IsBlock program.now.kinds self.now b.now) }
         ensures answers { IfSome result (λ b.
-            Answers program.now series.depth place series.counted series.most b.now) }
+            Answers program.now series.depth place series.counted series.most series.keeps b.now) }
     {
         // A wider one begins where a fine one does.
         let fine = self.fine.at(place)?;
         if !fine.begins_at(place) {
             return None;
         }
+        self.widest_with(fine, place, series, program)
+    }
+
+    // The same, where that fine block begins there.
+    #[inline(never)]
+    fn widest_with<'a>(
+        &'a self,
+        fine: &'a Block,
+        place: usize,
+        series: Series,
+        program: &Checked,
+    ) -> Option<&'a Block>
+        requires live { IsLive self.now.fine fine.now }
+        ensures block { IfSome result (λ b. IsBlock program.now.kinds self.now b.now) }
+        ensures answers { IfSome result (λ b.
+            Answers program.now series.depth place series.counted series.most series.keeps b.now) }
+    {
         if let Some(block) = self.vast.at(place) {
             if block.answers(place, series, program) && self.are_for(program.kinds()) {
                 return Some(block);

@@ -12,8 +12,8 @@ ghost use Rattle.record_theory.specs.Numbers.{told_by};
 ghost use Rattle.record_theory.specs.Commits.{put_records, AreSingle};
 ghost use Rattle.rerun_records.specs.Put.{ArePut};
 ghost use Rattle.record_theory.specs.Named.{looked_up, FindsNamed, CommitsNamed, HaveValues};
-ghost use Rattle.record_theory.specs.Batches.{IsBatch};
 ghost use Rattle.rerun_records.specs.Blocks.{BlockFits, is_fresh_at};
+ghost use Rattle.rerun_records.specs.Sums.{IsBatchFor};
 ghost use Rattle.monoid_laws.specs.declared.Kind.{Kind as PlainKind};
 
 use crate::batch::Batch;
@@ -37,7 +37,7 @@ use std::alloc::{AllocError, Global};
 use std::marker::Model;
 
 /// Room for one more record is made for so many.
-const RECORDS_A_SPARE: usize = 64;
+const RECORDS_A_SPARE: usize = 8;
 
 /// Records, at most one of each procedure and arguments, in the order in which those were first recorded. Beside each stands how many
 /// of its different readings the tables don't hold: to ask takes no look at them.
@@ -168,6 +168,7 @@ impl Records {
             slice_get (map as_made self.now) found.0 ≡ Some found.1.now) }
         ensures procedure { IfSome result (λ found. found.1.now.procedure ≡ procedure) }
         ensures arguments { IfSome result (λ found. found.1.now.arguments ≡ arguments.now) }
+        ensures none { IfNone result (find (is_of procedure arguments.now) self.now ≡ None) }
     {
         match self.found_at(near, procedure, arguments) {
             Some(record) => Some((near, record)),
@@ -234,7 +235,8 @@ impl Records {
     }
 
     /// Instances that records answer: that of the procedure of that number with these arguments, and those behind it in that
-    /// series, in all as many as are known to go together. None where the first has no valid record. It takes no memory.
+    /// series, in all as many as are known to go together, with what they have read where the series keeps that. None where the first
+    /// has no valid record. It takes no memory.
     #[inline(always)]
     pub fn batch(
         &self,
@@ -249,8 +251,10 @@ impl Records {
         requires counted { series.counted < length arguments.now }
         requires some { 0 < series.most }
         requires deep { 0 < series.depth }
-        ensures batch { IfSome result (λ b. IsBatch program.now tables.now.tables series.depth self.now
+        ensures batch { IfSome result (λ b. IsBatchFor series.keeps program.now tables.now.tables series.depth self.now
             procedure arguments.now series.counted series.most b.count b.sum.now) }
+        ensures none { IfNone result (valid_at program.now.revisions tables.now.tables series.depth
+            self.now procedure arguments.now ≡ None) }
     {
         match self.place_near(series.near, procedure, arguments) {
             Some((place, record)) => self.batch_at(place, record, series, tables, program),
@@ -259,6 +263,7 @@ impl Records {
     }
 
     // What answers from the instance of the record at that place on: a block that begins there, or the record alone.
+    #[inline(always)]
     fn batch_at<'a>(
         &'a self,
         place: usize,
@@ -273,8 +278,10 @@ impl Records {
         requires counted { series.counted < length record.now.arguments }
         requires some { 0 < series.most }
         requires deep { 0 < series.depth }
-        ensures batch { IfSome result (λ b. IsBatch program.now tables.now.tables series.depth self.now
+        ensures batch { IfSome result (λ b. IsBatchFor series.keeps program.now tables.now.tables series.depth self.now
             record.now.procedure record.now.arguments series.counted series.most b.count b.sum.now) }
+        ensures none { IfNone result (valid_at program.now.revisions tables.now.tables series.depth
+            self.now record.now.procedure record.now.arguments ≡ None) }
     {
         match self.blocks.widest(place, series, program) {
             Some(block) => Some(Batch::whole(block, place)),
@@ -283,6 +290,7 @@ impl Records {
     }
 
     // What the record alone answers.
+    #[inline(always)]
     fn batch_of_one<'a>(
         &self,
         place: usize,
@@ -297,8 +305,10 @@ impl Records {
         requires counted { series.counted < length record.now.arguments }
         requires some { 0 < series.most }
         requires deep { 0 < series.depth }
-        ensures batch { IfSome result (λ b. IsBatch program.now tables.now.tables series.depth self.now
+        ensures batch { IfSome result (λ b. IsBatchFor series.keeps program.now tables.now.tables series.depth self.now
             record.now.procedure record.now.arguments series.counted series.most b.count b.sum.now) }
+        ensures none { IfNone result (valid_at program.now.revisions tables.now.tables series.depth
+            self.now record.now.procedure record.now.arguments ≡ None) }
     {
         match self.valid_in(place, record, series.depth, tables, program) {
             Some(record) => Some(Batch::one(record, place)),

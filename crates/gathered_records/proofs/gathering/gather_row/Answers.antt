@@ -3,8 +3,8 @@ use Rattle.monoid_laws.specs.declared.Kind.{Kind}
 use Rattle.monoid_laws.specs.Kinds.{IsMonoid}
 use Rattle.record_theory.specs.Record.{PlainRecord, as_made}
 use Rattle.record_theory.specs.Named.{HaveValues}
-use Rattle.record_theory.specs.Sums.{IsSumOf}
 use Rattle.gathered_records.specs.Summing.{at_places}
+use Rattle.rerun_records.specs.Sums.{IsSumFor}
 use Rattle.rerun_records.specs.Blocks.{PlainBlock, BlockFits}
 use Rattle.gathered_records.proofs.Rows.{values_as_made, some_there, block_fits}
 use Rattle.gathered_records.proofs.gathering.gather_row.Goals as goal
@@ -28,12 +28,12 @@ sum_at-requires c =
 
 pub add_block-requires : goal.add_block-requires
 add_block-requires c =
-    let is : IsSumOf c.kinds-2.result.now (at_places (map as_made c.args.records.now) c.in_ok-places.places.items) c.in_ok-sum.sum =
-    subst (λ (ks : List Kind). IsSumOf ks (at_places (map as_made c.args.records.now) c.in_ok-places.places.items) c.in_ok-sum.sum) (c.kinds.ensures.kinds ∙ sym c.kinds-2.ensures.kinds)
-    (subst (λ (rs : List PlainRecord). IsSumOf c.kinds.result.now (at_places rs c.in_ok-places.places.items) c.in_ok-sum.sum) c.as_slice.ensures.records
-    (subst (λ (ps : List ℕ). IsSumOf c.kinds.result.now (at_places c.as_slice.result.now ps) c.in_ok-sum.sum) c.deref-2.ensures.value c.in_ok-sum.ensures.sum)) in
+    let is : IsSumFor c.keeps_reads-keeps.result c.kinds-2.result.now (at_places (map as_made c.args.records.now) c.in_ok-places.places.items) c.in_ok-sum.sum =
+    subst (λ (ks : List Kind). IsSumFor c.keeps_reads-keeps.result ks (at_places (map as_made c.args.records.now) c.in_ok-places.places.items) c.in_ok-sum.sum) (c.kinds.ensures.kinds ∙ sym c.kinds-2.ensures.kinds)
+    (subst (λ (rs : List PlainRecord). IsSumFor c.keeps_reads-keeps.result c.kinds.result.now (at_places rs c.in_ok-places.places.items) c.in_ok-sum.sum) c.as_slice.ensures.records
+    (subst (λ (ps : List ℕ). IsSumFor c.keeps_reads-keeps.result c.kinds.result.now (at_places c.as_slice.result.now ps) c.in_ok-sum.sum) c.deref-2.ensures.value c.in_ok-sum.ensures.sum)) in
     record {
       fits = subst (λ (b : PlainBlock). BlockFits c.kinds-2.result.now c.args.records.now b) (sym c.new-block.ensures.block)
-          (block_fits c.args.records.now c.fresh_in_row.new.row _ c.in_ok-places.places.items c.in_ok-places.ensures.row c.kinds-2.result.now c.in_ok-sum.sum c.counted.result c.counted.ensures.counted c.counted.ensures.within
+          (block_fits c.args.records.now c.fresh_in_row.new.row _ c.in_ok-places.places.items c.in_ok-places.ensures.row c.kinds-2.result.now c.keeps_reads-keeps.result c.in_ok-sum.sum c.counted.result c.counted.ensures.counted c.counted.ensures.within
           is);
     }

@@ -1,6 +1,9 @@
-use Rattle.std.proofs.Common.{take}
+use Rattle.std.proofs.Common.{◌≡◌, take}
 use Rattle.gathered_records.specs.Summing.{at_places, HasSummed}
 use Rattle.gathered_records.proofs.sums.sum_at.Given as goal
 
 abbrev pub invariant-loop-place : goal.invariant-loop-place
-invariant-loop-place l = HasSummed l.kinds (at_places l.records (take l.place-index l.places)) l.sum
+invariant-loop-place l = record {
+  summed : HasSummed l.kinds (at_places l.records (take l.place-index l.places)) l.sum;
+  keeps : l.sum.keeps ≡ l.keeps;
+}

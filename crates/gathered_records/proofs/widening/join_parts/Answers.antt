@@ -8,14 +8,14 @@ use Rattle.gathered_records.proofs.widening.join_parts.Goals as goal
 pub loop-init : goal.loop-init
 loop-init c = record {
   row = subst (AreInRow c.args.records.now c.args.row.now _) (sym c.requires.none) (none_in_row c.args.records.now c.args.row.now _);
-  summed = rw (c.requires.none, c.requires.nothing) (nothing_summed_so c.args.kinds.now c.requires.monoids);
+  summed = rw (c.requires.none, c.requires.nothing) (nothing_summed_so c.args.kinds.now c.args.joined.now.sum.keeps c.requires.monoids);
 }
 
 pub put_part-requires : goal.put_part-requires
 put_part-requires c = record {
   monoids = c.requires.monoids;
   worths = c.loop.invariant.summed.right;
-  values = c.in-Some.ensures.part.fits.sum_is.values;
+  values = c.in-Some.ensures.part.fits.sum_is.sum_is.values;
 }
 
 pub loop-preserved : goal.loop-preserved
@@ -25,7 +25,7 @@ loop-preserved c =
       row = next_part c.args.records.now c.loop.row c.part_next.new.row _ c.loop.joined.places.items c.put_part.new.joined.places.items c.len.result c.args.kinds.now c.in-Some.block.now c.in-Some.ensures.moved count
           c.in-Some.ensures.part c.in-Some.ensures.within c.in_ok-put_part-in-Some.ensures.places c.loop.invariant.row;
       summed = next_summed c.args.records.now c.loop.row c.part_next.new.row _ c.loop.joined.places.items c.put_part.new.joined.places.items c.len.result c.args.kinds.now c.in-Some.block.now c.in-Some.ensures.moved count
-          c.in-Some.ensures.part c.in-Some.ensures.within c.in_ok-put_part-in-Some.ensures.places c.loop.invariant.row c.loop.joined.sum c.put_part.new.joined.sum c.requires.monoids c.in_ok-put_part-in-Some.ensures.added c.loop.invariant.summed;
+          c.in-Some.ensures.part c.in-Some.ensures.within c.in_ok-put_part-in-Some.ensures.places c.loop.invariant.row c.loop.joined.sum c.put_part.new.joined.sum c.requires.monoids c.in_ok-put_part-in-Some.ensures.read c.in_ok-put_part-in-Some.ensures.added c.loop.invariant.summed;
     }
 
 pub returns-in-None-clause-row : goal.returns-in-None-clause-row

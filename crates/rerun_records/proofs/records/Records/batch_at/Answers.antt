@@ -16,5 +16,6 @@ returns-in-Some c =
     record {
       batch =
           rw (c.whole.ensures.count, c.whole.ensures.whole)
-          (batch_of_block P T c.args.series.depth records c.args.place c.args.series.counted c.args.series.most c.args.record.now c.in-Some.block.now single c.requires.in_step c.requires.there fits c.in-Some.ensures.answers);
+          (batch_of_block P T c.args.series.depth records c.args.place c.args.series.counted c.args.series.most c.args.series.keeps c.args.record.now c.in-Some.block.now single c.requires.in_step c.requires.there fits c.in-Some.ensures.answers);
+      none = tt;
     }

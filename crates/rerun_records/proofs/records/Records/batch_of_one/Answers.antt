@@ -1,4 +1,5 @@
 use Rattle.record_theory.proofs.Singles.{batch_of_one}
+use Rattle.rerun_records.proofs.Wholes.{with_all}
 use Rattle.rerun_records.proofs.records.Records.batch_of_one.Goals as goal
 
 pub returns-in-Some : goal.returns-in-Some
@@ -9,5 +10,7 @@ returns-in-Some c =
     record {
       batch =
           rw (c.one.ensures.count, c.one.ensures.one)
-          (batch_of_one P T c.args.series.depth c.args.self.now k.procedure k.arguments c.args.series.counted c.args.series.most c.in-Some.record.now c.requires.counted c.requires.some c.requires.deep c.requires.values c.in-Some.ensures.valid);
+          (with_all c.args.series.keeps P T c.args.series.depth c.args.self.now k.procedure k.arguments c.args.series.counted c.args.series.most 1 c.in-Some.record.now
+          (batch_of_one P T c.args.series.depth c.args.self.now k.procedure k.arguments c.args.series.counted c.args.series.most c.in-Some.record.now c.requires.counted c.requires.some c.requires.deep c.requires.values c.in-Some.ensures.valid));
+      none = tt;
     }
