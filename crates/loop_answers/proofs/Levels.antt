@@ -9,16 +9,17 @@ use Rattle.positions.specs.declared.work.Work.TheVariants.{Halves, Turns}
 use Rattle.positions.specs.declared.phase.Phase.TheVariants.{Running}
 use Rattle.positions.specs.Setting.{Setting}
 use Rattle.positions.specs.Activations.{ShareFits, at}
+use Rattle.positions.specs.Code.{loop_at}
 use Rattle.positions.specs.Strands.{PlainStrand, IsLayered, IsLayeredAt}
 use Rattle.positions.specs.Advance.{advanced, advanced_at, worked, halved, split, with_top, left_of, right_of}
 use Rattle.positions.specs.Moves.{inlined}
 use Rattle.answered_loops.specs.Ways.{IsNext, IsWay, here, on, as_call}
-use Rattle.answered_loops.specs.Answered.{IsInside, is_by_turns}
+use Rattle.answered_loops.specs.Answered.{absorbed, iteration_depth, IsInside, is_by_turns}
 use Rattle.answered_loops.proofs.Ways.{way_join, way_layered}
 use Rattle.loop_answers.specs.Ahead.{IsAnsweredAhead, IsRefusedAhead}
-use Rattle.loop_answers.specs.Batches.{instances_in, HasBatches, first_left}
+use Rattle.loop_answers.specs.Batches.{sums_of, instances_in, AreBatches, HasBatches, first_left}
 use Rattle.loop_answers.specs.Levels.{IsAtHalf, left_entered, right_entered}
-use Rattle.loop_answers.proofs.Batches.{has_rest}
+use Rattle.loop_answers.proofs.Batches.{absorbed_keeps, has_rest}
 use Rattle.loop_answers.proofs.Replays.{answered_same}
 
 inside_longer : (s : PlainStrand) (x : ℕ) (path : List ℕ) → length (s.path ++ x ∷ []) ≤ length path → length s.path ≤ length path
@@ -101,9 +102,11 @@ module _ (setting : Setting) where
     pub right_there : (t : PlainStrand) (n : ℕ) → ShareFits l (right_of h) → instances_in (take n bs) ≡ h.count / 2 → t ≡ right_entered l k h (take n bs) s → IsAtHalf setting l (k - 1) (right_of h) (drop n bs) t
     right_there t n fits half same =
         let inside : IsInside (right_entered l k h (take n bs) s) = λ path long. is.inside path (inside_longer s ((s.top.children + 1) + 1) path long) in
-        let rest : HasBatches setting l s.top (h.first + h.count / 2) (drop n bs) = has_rest setting l s.top h.first n (h.count / 2) bs half is.answers in
+        let rest : HasBatches setting s.layer.keeps l s.top (h.first + h.count / 2) (drop n bs) = has_rest setting s.layer.keeps l s.top h.first n (h.count / 2) bs half is.answers in
+        let still : AreBatches setting (absorbed (iteration_depth s.top) (sums_of (take n bs)) s.layer).keeps (loop_at setting.codes s.top.procedure l) s.top.slots s.top.left l.low (h.first + h.count / 2) (drop n bs) =
+        subst (λ (b : Bool). AreBatches setting b (loop_at setting.codes s.top.procedure l) s.top.slots s.top.left l.low (h.first + h.count / 2) (drop n bs)) (sym (absorbed_keeps (iteration_depth s.top) (sums_of (take n bs)) s.layer)) rest.batches in
         subst (IsAtHalf setting l (k - 1) (right_of h) (drop n bs)) (sym same)
-        (record { running = refl; work = refl; fits = fits; layered = is.layered; inside = inside; answers = record { of_memo = rest.of_memo; batches = rest.batches } })
+        (record { running = refl; work = refl; fits = fits; layered = is.layered; inside = inside; answers = record { of_memo = rest.of_memo; batches = still } })
 
   -- all but the first n of what is left behind m of them
   pub passed : (l : Loop) (k : ℕ) (h : Share) (all bs : List Batch) (m n : ℕ) (s : PlainStrand) → bs ≡ drop m all → IsAtHalf setting l k h (drop n bs) s → IsAtHalf setting l k h (drop (m + n) all) s

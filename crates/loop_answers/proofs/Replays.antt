@@ -13,10 +13,11 @@ use Rattle.evaluation.specs.declared.slot.Slot.{Slot}
 use Rattle.evaluation.specs.declared.slot.Slot.TheVariants.{Has}
 use Rattle.evaluation.specs.Values.{NumberedOut, values_at, pure}
 use Rattle.rerun_records.specs.declared.batch.Batch.{Batch}
+use Rattle.rerun_records.specs.Sums.{IsBatchFor}
 use Rattle.record_theory.specs.Record.{PlainRecord}
 use Rattle.record_theory.specs.Named.{HaveValues}
 use Rattle.record_theory.specs.Validity.{valid_at}
-use Rattle.record_theory.specs.Batches.{AreValidFrom, IsBatch}
+use Rattle.record_theory.specs.Batches.{AreValidFrom}
 use Rattle.record_theory.proofs.Singles.{sum_of_one, valid_values}
 use Rattle.positions.specs.declared.work.Loop.{Loop}
 use Rattle.positions.specs.declared.work.Share.{Share}
@@ -71,47 +72,48 @@ module _ (program : PlainChecked) (tables : Tables) (kept : List Kept) (records 
     members_answer place vs values (v +ℤ pos 1) rs valid.1 low (i + 1) (next_number v low i e),
   )
 
-  batch_answers : (b : Batch) (most place : ℕ) (v : ℤ) (vs : List ℤ) → CountsAt slots j.variable (map expression j.arguments) place → values_of v ≡ pure vs
-      → IsBatch program tables d records j.callee vs place most b.count b.sum.now → IsBatchFrom setting j slots left v most b
-  batch_answers b most place v vs at values h =
+  batch_answers : (keeps : Bool) (b : Batch) (most place : ℕ) (v : ℤ) (vs : List ℤ) → CountsAt slots j.variable (map expression j.arguments) place → values_of v ≡ pure vs
+      → IsBatchFor keeps program tables d records j.callee vs place most b.count b.sum.now → IsBatchFrom setting keeps j slots left v most b
+  batch_answers keeps b most place v vs at values asked =
+      let h = asked.batch in
       let es : List Linked = map expression j.arguments in
       let first : slice_get vs place ≡ Some v = counted_is tables slots j.variable place es v vs at.counts at.has_slot values in
       let others : (w : ℤ) → values_of w ≡ pure (slice_set vs place w) = other_values tables slots j.variable place es v vs at.counts at.has_slot values in
       let same : Some h.first ≡ Some v = sym h.first_is ∙ first in
       record {
         members = h.members;
-        sum_is = h.sum_is;
+        sum_is = record { reads = asked.reads; sum_is = h.sum_is; has = asked.has };
         count_is = h.count_is;
         some = h.some;
         few = h.few;
         answers = λ low i e. members_answer place vs others h.first h.members h.valid low i ((let f : h.first ≡ v = cc in f) ∙ e);
       }
 
-  single_answers : (b : Batch) (most : ℕ) (v : ℤ) (vs : List ℤ) → 0 < most → HaveValues program.kinds records → values_of v ≡ pure vs
-      → (b.count ≡ 1) × (valid_at program.revisions tables d records j.callee vs ≡ Some b.sum.now) → IsBatchFrom setting j slots left v most b
-  single_answers b most v vs some have values h =
+  single_answers : (keeps : Bool) (b : Batch) (most : ℕ) (v : ℤ) (vs : List ℤ) → 0 < most → HaveValues program.kinds records → values_of v ≡ pure vs
+      → (b.count ≡ 1) × (valid_at program.revisions tables d records j.callee vs ≡ Some b.sum.now) → IsBatchFrom setting keeps j slots left v most b
+  single_answers keeps b most v vs some have values h =
       let r = b.sum.now in
       let count : b.count ≡ 1 = h.0 in
       record {
         members = r ∷ [];
-        sum_is = sum_of_one program.kinds r (valid_values program.revisions tables program.kinds d j.callee vs records r deep have (sym h.1));
+        sum_is = record { reads = r.reads; sum_is = sum_of_one program.kinds r (valid_values program.revisions tables program.kinds d j.callee vs records r deep have (sym h.1)); has = λ asked. refl };
         count_is = sym count;
         some = omega arith;
         few = omega arith;
         answers = λ low i e. (subst (λ u. IsAnswer setting j slots left u r) e (valid_answers v vs r values h.1), tt);
       }
 
-  pub batches_answer : (o : Option Batch) (most place : ℕ) (v : ℤ) (vs us : List ℤ) → us ≡ vs → CountsAt slots j.variable (map expression j.arguments) place → values_of v ≡ pure vs
-      → IfSome o (λ b. IsBatch program tables d records j.callee us place most b.count b.sum.now) → IfSome o (IsBatchFrom setting j slots left v most)
-  batches_answer None most place v vs us same at values h = tt
-  batches_answer (Some b) most place v vs us same at values h =
-      batch_answers b most place v vs at values (subst (λ xs. IsBatch program tables d records j.callee xs place most b.count b.sum.now) same h)
+  pub batches_answer : (keeps : Bool) (o : Option Batch) (most place : ℕ) (v : ℤ) (vs us : List ℤ) → us ≡ vs → CountsAt slots j.variable (map expression j.arguments) place → values_of v ≡ pure vs
+      → IfSome o (λ b. IsBatchFor keeps program tables d records j.callee us place most b.count b.sum.now) → IfSome o (IsBatchFrom setting keeps j slots left v most)
+  batches_answer keeps None most place v vs us same at values h = tt
+  batches_answer keeps (Some b) most place v vs us same at values h =
+      batch_answers keeps b most place v vs at values (subst (λ xs. IsBatchFor keeps program tables d records j.callee xs place most b.count b.sum.now) same h)
 
-  pub singles_answer : (o : Option Batch) (most : ℕ) (v : ℤ) (vs us : List ℤ) → us ≡ vs → 0 < most → HaveValues program.kinds records → values_of v ≡ pure vs
-      → IfSome o (λ b. (b.count ≡ 1) × (valid_at program.revisions tables d records j.callee us ≡ Some b.sum.now)) → IfSome o (IsBatchFrom setting j slots left v most)
-  singles_answer None most v vs us same some have values h = tt
-  singles_answer (Some b) most v vs us same some have values h =
-      single_answers b most v vs some have values (subst (λ xs. (b.count ≡ 1) × (valid_at program.revisions tables d records j.callee xs ≡ Some b.sum.now)) same h)
+  pub singles_answer : (keeps : Bool) (o : Option Batch) (most : ℕ) (v : ℤ) (vs us : List ℤ) → us ≡ vs → 0 < most → HaveValues program.kinds records → values_of v ≡ pure vs
+      → IfSome o (λ b. (b.count ≡ 1) × (valid_at program.revisions tables d records j.callee us ≡ Some b.sum.now)) → IfSome o (IsBatchFrom setting keeps j slots left v most)
+  singles_answer keeps None most v vs us same some have values h = tt
+  singles_answer keeps (Some b) most v vs us same some have values h =
+      single_answers keeps b most v vs some have values (subst (λ xs. (b.count ≡ 1) × (valid_at program.revisions tables d records j.callee xs ≡ Some b.sum.now)) same h)
 
 module _ (setting : Setting) where
   -- ---- ways
@@ -129,7 +131,7 @@ module _ (setting : Setting) where
   absorbed_kinds d (r ∷ rs) l = absorbed_kinds d rs (absorbing r d l)
 
   module _ (s m t : PlainStrand) (l : Loop) (h : Share) (bs : List Batch) (same : m ≡ s) (running : s.phase ≡ Running) (kinds : s.layer.kinds ≡ setting.kinds) (are : AreWorths s.layer.kinds s.layer.worths)
-      (has : HasBatches setting l s.top h.first bs) where
+      (has : HasBatches setting s.layer.keeps l s.top h.first bs) where
     abbrev rs : List PlainRecord
     rs = all_in has.batches.parts
 
@@ -138,10 +140,10 @@ module _ (setting : Setting) where
     each = record { of_memo = has.of_memo; answers = has.batches.answers }
 
     as_records : with_batches (iteration_depth s.top) bs s ≡ with_answers (iteration_depth s.top) rs s
-    as_records = batches_leave (iteration_depth s.top) has.batches.parts bs s are (subst (λ ks. AreSums ks has.batches.parts bs) (sym kinds) has.batches.sums)
+    as_records = batches_leave (iteration_depth s.top) has.batches.parts bs s are (subst (λ ks. AreSums s.layer.keeps ks has.batches.parts bs) (sym kinds) has.batches.sums)
 
     many : length rs ≡ instances_in bs
-    many = as_many setting.kinds has.batches.parts bs has.batches.sums
+    many = as_many s.layer.keeps setting.kinds has.batches.parts bs has.batches.sums
 
     turns_are : t ≡ turns_left l h bs m → t ≡ turns_answered l h rs s
     turns_are e =
@@ -198,31 +200,31 @@ module _ (setting : Setting) where
 
   -- ---- what a call came to
 
-  pub values_ready : (ks : List Kind) (l : Loop) (a : PlainActivation) (i : ℕ) (bs qs : List Batch) → HasBatches setting l a i bs → qs ≡ bs → ks ≡ setting.kinds → SumsHaveValues ks qs
-  values_ready ks l a i bs qs has same kinds =
-      subst (λ cs. SumsHaveValues cs qs) (sym kinds) (subst (SumsHaveValues setting.kinds) (sym same) (sums_values setting.kinds has.batches.parts bs has.batches.sums))
+  pub values_ready : (ks : List Kind) (keeps : Bool) (l : Loop) (a : PlainActivation) (i : ℕ) (bs qs : List Batch) → HasBatches setting keeps l a i bs → qs ≡ bs → ks ≡ setting.kinds → SumsHaveValues ks qs
+  values_ready ks keeps l a i bs qs has same kinds =
+      subst (λ cs. SumsHaveValues cs qs) (sym kinds) (subst (SumsHaveValues setting.kinds) (sym same) (sums_values keeps setting.kinds has.batches.parts bs has.batches.sums))
 
   pub half_over : {E : Type 0} (r : Result Bool E) (s m t : PlainStrand) (l : Loop) (h : Share) (bs qs : List Batch) (k : ℕ) → m ≡ s → s.phase ≡ Running → s.layer.kinds ≡ setting.kinds → AreWorths s.layer.kinds s.layer.worths
-      → HasBatches setting l s.top h.first bs → s.top.work ≡ Halves l k h → IsInside s → instances_in bs ≡ h.count → is_by_turns setting.codes s.top l k h.count ≡ false → qs ≡ bs
+      → HasBatches setting s.layer.keeps l s.top h.first bs → s.top.work ≡ Halves l k h → IsInside s → instances_in bs ≡ h.count → is_by_turns setting.codes s.top l k h.count ≡ false → qs ≡ bs
       → IfOk r (λ done. DoneBy done (t ≡ halves_left qs m) (t ≡ m)) → OnOk r (IsAnsweredAhead setting s t)
   half_over (Ok done) s m t l h bs qs k same running kinds are has there inside all halved is e =
       half_ends s m t l h bs same running kinds are has k done there inside all halved (subst (λ cs. DoneBy done (t ≡ halves_left cs m) (t ≡ m)) is e)
   half_over (Err x) s m t l h bs qs k same running kinds are has there inside all halved is e = tt
 
   pub last_over : {E : Type 0} (r : Result Bool E) (s m t : PlainStrand) (l : Loop) (h : Share) (bs : List Batch) (k : ℕ) → m ≡ s → s.phase ≡ Running → s.layer.kinds ≡ setting.kinds → AreWorths s.layer.kinds s.layer.worths
-      → HasBatches setting l s.top h.first bs → s.top.work ≡ Halves l k h → IsInside s → instances_in bs ≡ h.count → is_by_turns setting.codes s.top l k h.count ≡ true
+      → HasBatches setting s.layer.keeps l s.top h.first bs → s.top.work ≡ Halves l k h → IsInside s → instances_in bs ≡ h.count → is_by_turns setting.codes s.top l k h.count ≡ true
       → IfOk r (λ done. DoneBy done (t ≡ last_left l h bs m) (t ≡ m)) → OnOk r (IsAnsweredAhead setting s t)
   last_over (Ok done) s m t l h bs k same running kinds are has there inside all turns e = last_ends s m t l h bs same running kinds are has k done there inside all turns e
   last_over (Err x) s m t l h bs k same running kinds are has there inside all turns e = tt
 
   pub begun_over : {E : Type 0} (r : Result Bool E) (s m t : PlainStrand) (l : Loop) (h : Share) (bs : List Batch) (k : ℕ) → m ≡ s → s.phase ≡ Running → s.layer.kinds ≡ setting.kinds → AreWorths s.layer.kinds s.layer.worths
-      → HasBatches setting l s.top h.first bs → s.top.work ≡ Halves l k h → instances_in bs ≤ h.count → is_by_turns setting.codes s.top l k h.count ≡ true
+      → HasBatches setting s.layer.keeps l s.top h.first bs → s.top.work ≡ Halves l k h → instances_in bs ≤ h.count → is_by_turns setting.codes s.top l k h.count ≡ true
       → IfOk r (λ done. DoneBy done (t ≡ turns_left l h bs m) (t ≡ m)) → OnOk r (IsAnsweredAhead setting s t)
   begun_over (Ok done) s m t l h bs k same running kinds are has there fits turns e = begun_ends s m t l h bs same running kinds are has k done there fits turns e
   begun_over (Err x) s m t l h bs k same running kinds are has there fits turns e = tt
 
   pub turns_over : {E : Type 0} (r : Result Bool E) (s m t : PlainStrand) (l : Loop) (h : Share) (bs qs : List Batch) → m ≡ s → s.phase ≡ Running → s.layer.kinds ≡ setting.kinds → AreWorths s.layer.kinds s.layer.worths
-      → HasBatches setting l s.top h.first bs → s.top.work ≡ Turns l h → instances_in bs ≤ h.count → qs ≡ bs → IfOk r (λ done. DoneBy done (t ≡ turns_left l h qs m) (t ≡ m)) → OnOk r (IsAnsweredAhead setting s t)
+      → HasBatches setting s.layer.keeps l s.top h.first bs → s.top.work ≡ Turns l h → instances_in bs ≤ h.count → qs ≡ bs → IfOk r (λ done. DoneBy done (t ≡ turns_left l h qs m) (t ≡ m)) → OnOk r (IsAnsweredAhead setting s t)
   turns_over (Ok done) s m t l h bs qs same running kinds are has there fits is e =
       turns_end s m t l h bs same running kinds are has done there fits (subst (λ cs. DoneBy done (t ≡ turns_left l h cs m) (t ≡ m)) is e)
   turns_over (Err x) s m t l h bs qs same running kinds are has there fits is e = tt

@@ -1,5 +1,5 @@
 -- Batches that answer a loop's iterations: the records that they stand for, and what they leave.
-use Rattle.std.specs.Prelude.{◌≡◌, ℕ, ◌+◌, ◌<◌, ◌≤◌, ℤ, pos, ◌+ℤ◌, true, List, [], ◌∷◌, map, length, None, slice_set, All}
+use Rattle.std.specs.Prelude.{◌≡◌, ℕ, ◌+◌, ◌<◌, ◌≤◌, ℤ, pos, ◌+ℤ◌, Bool, true, List, [], ◌∷◌, map, length, None, slice_set, All}
 use Rattle.std.specs.List.{flat_map}
 use Rattle.monoid_laws.specs.declared.Kind.{Kind}
 use Rattle.meaning.specs.Tables.{Tables}
@@ -8,9 +8,10 @@ use Rattle.evaluation.specs.declared.slot.Slot.{Slot}
 use Rattle.evaluation.specs.declared.slot.Slot.TheVariants.{Has}
 use Rattle.evaluation.specs.Values.{values_at, pure}
 use Rattle.rerun_records.specs.declared.batch.Batch.{Batch}
+use Rattle.rerun_records.specs.Sums.{IsSumFor}
 use Rattle.record_theory.specs.Record.{PlainRecord}
 use Rattle.record_theory.specs.Named.{AreValuesFrom}
-use Rattle.record_theory.specs.Sums.{IsSumOf, arguments_of_last}
+use Rattle.record_theory.specs.Sums.{arguments_of_last}
 use Rattle.positions.specs.declared.work.Loop.{Loop}
 use Rattle.positions.specs.declared.work.Share.{Share}
 use Rattle.positions.specs.declared.work.Work.TheVariants.{Second}
@@ -37,30 +38,30 @@ abbrev pub instances_in : List Batch → ℕ
 instances_in [] = 0
 instances_in (b ∷ bs) = b.count + instances_in bs
 
--- the batches have what these records have, each batch a part
-abbrev pub AreSums : List Kind → List (List PlainRecord) → List Batch → Type 0
-AreSums kinds [] [] = Unit {0}
-AreSums kinds (rs ∷ parts) (b ∷ bs) = IsSumOf kinds rs b.sum.now × (length rs ≡ b.count) × AreSums kinds parts bs
-AreSums kinds _ _ = ⊥
+-- the batches have what these records have, each batch a part; what they have read where that is kept
+abbrev pub AreSums : Bool → List Kind → List (List PlainRecord) → List Batch → Type 0
+AreSums keeps kinds [] [] = Unit {0}
+AreSums keeps kinds (rs ∷ parts) (b ∷ bs) = IsSumFor keeps kinds rs b.sum.now × (length rs ≡ b.count) × AreSums keeps kinds parts bs
+AreSums keeps kinds _ _ = ⊥
 
 abbrev pub all_in : List (List PlainRecord) → List PlainRecord
 all_in parts = flat_map (λ rs. rs) parts
 
--- they answer iterations, those behind so many first ones
-pub record AreBatches (setting : Setting) (j : PlainLoop) (slots : List Slot) (left : ℕ) (low : ℤ) (i : ℕ) (bs : List Batch) : Type 0 where
+-- they answer iterations, those behind so many first ones, for a layer that keeps readings or not
+pub record AreBatches (setting : Setting) (keeps : Bool) (j : PlainLoop) (slots : List Slot) (left : ℕ) (low : ℤ) (i : ℕ) (bs : List Batch) : Type 0 where
   pub parts : List (List PlainRecord)
-  pub sums : AreSums setting.kinds parts bs
+  pub sums : AreSums keeps setting.kinds parts bs
   pub answers : AreAnswers setting j slots left low i (all_in parts)
 
 -- the iterations of the loop of that instance are of a memo procedure, and these batches answer those behind so many first ones
-pub record HasBatches (setting : Setting) (l : Loop) (a : PlainActivation) (i : ℕ) (bs : List Batch) : Type 0 where
+pub record HasBatches (setting : Setting) (keeps : Bool) (l : Loop) (a : PlainActivation) (i : ℕ) (bs : List Batch) : Type 0 where
   pub of_memo : IsOfMemo setting (loop_at setting.codes a.procedure l) a.left
-  pub batches : AreBatches setting (loop_at setting.codes a.procedure l) a.slots a.left l.low i bs
+  pub batches : AreBatches setting keeps (loop_at setting.codes a.procedure l) a.slots a.left l.low i bs
 
 -- a batch answers iterations from that number on, at least one and no more than so many
-pub record IsBatchFrom (setting : Setting) (j : PlainLoop) (slots : List Slot) (left : ℕ) (number : ℤ) (most : ℕ) (b : Batch) : Type 0 where
+pub record IsBatchFrom (setting : Setting) (keeps : Bool) (j : PlainLoop) (slots : List Slot) (left : ℕ) (number : ℤ) (most : ℕ) (b : Batch) : Type 0 where
   pub members : List PlainRecord
-  pub sum_is : IsSumOf setting.kinds members b.sum.now
+  pub sum_is : IsSumFor keeps setting.kinds members b.sum.now
   pub count_is : length members ≡ b.count
   pub some : 0 < b.count
   pub few : b.count ≤ most

@@ -20,7 +20,7 @@ pub record IsAtHalf (setting : Setting) (l : Loop) (k : ℕ) (h : Share) (bs : L
   pub fits : ShareFits l h
   pub layered : length s.tally.opened ≡ length s.lower
   pub inside : IsInside s
-  pub answers : HasBatches setting l s.top h.first bs
+  pub answers : HasBatches setting s.layer.keeps l s.top h.first bs
 
 -- its first half is called
 abbrev pub left_entered : Loop → ℕ → Share → PlainStrand → PlainStrand

@@ -9,7 +9,7 @@ ghost use Rattle.activations.specs.Given.{lent};
 ghost use Rattle.answered_loops.specs.Answered.{IsInside, is_by_turns};
 ghost use Rattle.loop_answers.specs.Ahead.{IsAnsweredAhead, IsSameButAnswers, IsRefusedAhead};
 
-use crate::descending::{Descent, descend};
+use crate::descending::{Descent, descend, few_left};
 use crate::finding::answers;
 use crate::taking::{begin_turns, end_halves, end_last, end_turns};
 use crate::tried::Wanted;
@@ -168,6 +168,7 @@ fn answer_half<V: View>(
         most: turns.share.count,
         all: true,
         halves: calls,
+        is_left: leaves && turns.share.count <= few_left(calls),
     };
     let Some(found) = answers(machine, alloc, setting, code, turns, wanted) else {
         return Ok(false);
@@ -216,6 +217,7 @@ pub(crate) fn answer_last<V: View>(
         most: share.count,
         all: false,
         halves: false,
+        is_left: false,
     };
     let code = loop_code(setting.program, machine.top.procedure(), site);
     let turns = Turns { site, share };
@@ -261,6 +263,7 @@ fn answer_turns<V: View>(
         most: share.count,
         all: false,
         halves: false,
+        is_left: false,
     };
     let code = loop_code(setting.program, machine.top.procedure(), site);
     let turns = Turns { site, share };

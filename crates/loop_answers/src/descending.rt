@@ -114,8 +114,12 @@ fn behind<'b, 'a>(found: &'b [Batch<'a>], count: usize) -> &'b [Batch<'a>]
 
 /// Whether a half of those iterations, which aren't all answered, is left as it is.
 fn is_left(descent: Descent, share: Share) -> bool {
-    let most = if descent.calls { FEW } else { SMALL };
-    descent.leaves && share.count <= most
+    descent.leaves && share.count <= few_left(descent.calls)
+}
+
+/// Halves of how many iterations are left as they are, where that is asked for, by whether spawned children are called.
+pub(crate) fn few_left(calls: bool) -> u32 {
+    if calls { FEW } else { SMALL }
 }
 
 /// Goes down to half of a half's iterations, or where these are done one by one, to the first of them.

@@ -19,6 +19,7 @@ use crate::tried::{
     is_known_ahead, is_no_use, is_stale_at, keep_tried, most_asked, note_behind, note_stale,
     tried_in,
 };
+use crate::vain::{SINGLES, is_in_vain, singles_with};
 use activations::code::LoopCode;
 use activations::setting::Setting;
 use activations::shares::Turns;
@@ -30,24 +31,18 @@ use layers::layer::DEEPEST;
 use linked_program::code::Expression;
 use positions::work::{Loop, Share};
 use rerun_records::batch::Batch;
-use rerun_records::blocks::Width;
 use rerun_records::series::Series;
 use small_steps::machine::Machine;
 use std::alloc::{AllocError, Global};
 use std::mem;
 use view_pool::View;
 
-/// So many batches are looked up at most in one go, and so many single records among them: what is found of a half that isn't
-/// answered as a whole is looked up once more in its own halves, and a single record costs as much as a wide batch.
+/// So many batches are looked up at most in one go: what is found of a half that isn't answered as a whole is looked up once more in its
+/// own halves.
 const BATCHES: u32 = 2048;
-
-const SINGLES: u32 = 64;
 
 /// Few iterations are those whose number takes so many bits.
 const FEW_BITS: u32 = 6;
-
-/// So many records go together where they can.
-const WIDTH: u32 = 16;
 
 /// There is room for so many batches with the first one: the allocator takes longer for more, and hands out what was given back last
 /// where all lists begin alike.
@@ -70,7 +65,8 @@ pub(crate) fn answers<'a, V: View>(
     ensures unchanged { machine.new ≡ machine.old }
     ensures count { IfSome result (λ found. found.count ≡ instances_in found.batches.items) }
     ensures few { IfSome result (λ found. found.count ≤ wanted.most) }
-    ensures answers { IfSome result (λ found. HasBatches (lent setting.entry) turns.site machine.old.top turns.share.first found.batches.items) }
+    ensures answers { IfSome result (λ found. HasBatches (lent setting.entry) machine.old.layer.keeps turns.site
+        machine.old.top turns.share.first found.batches.items) }
 {
     let counted = counted_place(machine, code);
     let tried = tried_in(&machine.numbers, counted, code.arguments.len());
@@ -101,7 +97,8 @@ fn none_answered<'a, V: View>(
     requires code { loop_of code ≡ loop_at setting.program.now.codes machine.now.top.procedure turns.site }
     ensures count { IfSome result (λ found. found.count ≡ instances_in found.batches.items) }
     ensures few { IfSome result (λ found. found.count ≤ search.wanted.most) }
-    ensures answers { IfSome result (λ found. HasBatches (lent setting.entry) turns.site machine.now.top turns.share.first found.batches.items) }
+    ensures answers { IfSome result (λ found. HasBatches (lent setting.entry) machine.now.layer.keeps turns.site
+        machine.now.top turns.share.first found.batches.items) }
 {
     let _ = depth_of(machine, setting, code, search.wanted)?;
     let end = if begins_at_stale(search.tried, turns) {
@@ -149,7 +146,8 @@ fn answers_by<'a, V: View>(
     ensures unchanged { machine.new ≡ machine.old }
     ensures count { IfSome result (λ found. found.count ≡ instances_in found.batches.items) }
     ensures few { IfSome result (λ found. found.count ≤ search.wanted.most) }
-    ensures answers { IfSome result (λ found. HasBatches (lent setting.entry) turns.site machine.old.top turns.share.first found.batches.items) }
+    ensures answers { IfSome result (λ found. HasBatches (lent setting.entry) machine.old.layer.keeps turns.site
+        machine.old.top turns.share.first found.batches.items) }
 {
     let depth = depth_of(machine, setting, code, search.wanted)?;
     let from = number_behind(turns.site, turns.share, 0);
@@ -273,32 +271,6 @@ fn is_stale<V: View>(
     }
 }
 
-/// How many single records there are with that batch.
-fn singles_with(singles: u32, batch: Batch<'_>) -> u32 {
-    if batch.count == 1 {
-        return singles.saturating_add(1);
-    }
-    singles
-}
-
-/// Whether it is of no use to look further: too many single records were found, or many iterations are all asked for, and a record
-/// is part of no block where many are left, so that one beside it isn't valid any more, or no argument counts up.
-fn is_in_vain(
-    setting: Setting<'_>,
-    wanted: Wanted,
-    ahead: Ahead,
-    batch: Batch<'_>,
-    singles: u32,
-) -> bool {
-    if singles > SINGLES {
-        return true;
-    }
-    if !wanted.all || wanted.most <= SINGLES || batch.count > 1 {
-        return false;
-    }
-    ahead.counted.is_none() || ahead.most >= WIDTH && is_alone(setting, batch)
-}
-
 /// How many iterations are asked for, where that batch is found and so many were: the same, or where it is the first one and alone among many
 /// those of a first half of a first half that are few, as it would be found again for each of these halves; 0 where it is of no use to look
 /// further.
@@ -333,22 +305,8 @@ fn few_of(most: u32) -> u32
     most.wrapping_shr(bits.saturating_sub(FEW_BITS)).min(most)
 }
 
-/// Whether the record of one instance is part of no block, nor is the one behind it.
-fn is_alone(setting: Setting<'_>, batch: Batch<'_>) -> bool {
-    !has_block(setting, batch.next.wrapping_sub(1)) && !has_block(setting, batch.next)
-}
-
-/// Whether the record at that place may be part of a block.
-fn has_block(setting: Setting<'_>, place: usize) -> bool {
-    let kinds = setting.program.kinds();
-    setting
-        .records
-        .block_at(Width::Fine, place, kinds)
-        .is_some()
-}
-
-/// The batch that answers a loop's iterations from that number on; `numbers` are the arguments of another iteration, where one of
-/// them counts up.
+/// The batch that answers a loop's iterations from that number on, with what they have read where the layer keeps it; `numbers` are the
+/// arguments of another iteration, where one of them counts up.
 #[inline(always)]
 fn batch_from<'a, V: View>(
     machine: &mut Machine<V>,
@@ -366,11 +324,12 @@ fn batch_from<'a, V: View>(
         (map plain code.arguments.now) numbers.old.items) }
     requires values { HaveValues setting.program.now.kinds setting.records.now }
     ensures unchanged { machine.new ≡ machine.old }
-    ensures batch { IfSome result (IsBatchFrom (lent setting.entry) (loop_of code.entry)
+    ensures batch { IfSome result (IsBatchFrom (lent setting.entry) machine.old.layer.keeps (loop_of code.entry)
         machine.old.top.slots machine.old.top.left ahead.number ahead.most) }
     ensures known { IfSome ahead.counted (λ place. AreArguments setting.entry.tables.now.tables machine.old.top.slots code.entry.variable
         (map plain code.entry.arguments.now) numbers.new.items) }
 {
+    let keeps = keeps_reads(machine);
     match ahead.counted {
         Some(place) => {
             put_number(numbers, place, ahead.number);
@@ -379,6 +338,7 @@ fn batch_from<'a, V: View>(
                 most: ahead.most,
                 depth: ahead.depth,
                 near: ahead.near,
+                keeps,
             };
             setting.records.batch(
                 code.callee,
@@ -390,6 +350,14 @@ fn batch_from<'a, V: View>(
         }
         None => single_at(machine, alloc, setting, code, ahead, numbers),
     }
+}
+
+/// Whether a strand's topmost layer keeps what is read.
+#[inline(always)]
+fn keeps_reads<V: View>(machine: &Machine<V>) -> bool
+    ensures keeps { result ≡ machine.now.layer.keeps }
+{
+    machine.layer.keeps
 }
 
 /// Puts a number in the place of another one.
@@ -415,7 +383,7 @@ fn single_at<'a, V: View>(
     requires depth { ahead.depth ≡ depth_limit - (machine.old.top.left - 1) }
     requires values { HaveValues setting.program.now.kinds setting.records.now }
     ensures unchanged { machine.new ≡ machine.old }
-    ensures batch { IfSome result (IsBatchFrom (lent setting.entry) (loop_of code.entry)
+    ensures batch { IfSome result (IsBatchFrom (lent setting.entry) machine.old.layer.keeps (loop_of code.entry)
         machine.old.top.slots machine.old.top.left ahead.number ahead.most) }
 {
     if !unread_values_at(machine, alloc, setting.tables, code, ahead.number, numbers) {

@@ -7,3 +7,4 @@ mod finding;
 mod found;
 mod taking;
 mod tried;
+mod vain;

@@ -15,12 +15,14 @@ pub(crate) struct Tried {
     near: Option<usize>,
 }
 
-/// How many iterations are asked for at most, whether fewer are of no use, and whether those of a first half are of use even then.
+/// How many iterations are asked for at most, whether fewer are of no use, whether those of a first half are of use even then, and whether
+/// all of them are left as they are where not all are answered.
 #[derive(Clone, Copy)]
 pub(crate) struct Wanted {
     pub(crate) most: u32,
     pub(crate) all: bool,
     pub(crate) halves: bool,
+    pub(crate) is_left: bool,
 }
 
 /// A search for iterations that are wanted, the iteration at which one before it ended, where it is known, and which argument is the number.

@@ -21,7 +21,7 @@ pub end_halves-requires-clause-values : goal.end_halves-requires-clause-values
 end_halves-requires-clause-values g c κs within =
     let S = lent c.args.setting in
     let kinds : c.answers.new.machine.layer.kinds ≡ c.args.setting.program.now.kinds = search rules in
-    values_ready S c.answers.new.machine.layer.kinds c.args.turns.site c.args.machine.now.top c.args.turns.share.first c.in-Some.found.batches.items c.deref.result.now c.in-Some.ensures.answers c.deref.ensures.value kinds
+    values_ready S c.answers.new.machine.layer.kinds c.args.machine.now.layer.keeps c.args.turns.site c.args.machine.now.top c.args.turns.share.first c.in-Some.found.batches.items c.deref.result.now c.in-Some.ensures.answers c.deref.ensures.value kinds
 
 pub returns-then-found-turns-clause-ahead : goal.returns-then-found-turns-clause-ahead
 returns-then-found-turns-clause-ahead g c =
@@ -37,7 +37,7 @@ returns-then-found-turns-clause-ahead g c =
     let all : c.in-Some.found.count ≡ h.count = search rules in
     let count : instances_in bs ≡ h.count = sym c.in-Some.ensures.count ∙ all in
     let are : AreWorths s.layer.kinds s.layer.worths = subst (λ (z : PlainStrand). AreWorths z.layer.kinds z.layer.worths) back c.of_kinds.ensures.worths in
-    let has : HasBatches S l s.top h.first bs = c.in-Some.ensures.answers in
+    let has : HasBatches S s.layer.keeps l s.top h.first bs = c.in-Some.ensures.answers in
     let j : PlainLoop = loop_of c.loop_code-code.result in
     let found : j ≡ loop_at S.codes s.top.procedure l = c.loop_code-code.ensures.found ∙ ap (λ f. loop_at S.codes f l) (c.procedure.ensures.procedure ∙ ap (λ (z : PlainStrand). z.top.procedure) c.machine.view_is) in
     let halved : is_by_turns S.codes s.top l c.args.halvings h.count ≡ false =

@@ -17,8 +17,8 @@ pub end_first-requires-clause-values : goal.end_first-requires-clause-values
 end_first-requires-clause-values g c κs within =
     let S = lent c.args.setting in
     let bs = take c.args.count c.args.found.now in
-    values_ready S c.args.machine.now.layer.kinds c.args.turns.site c.args.machine.now.top c.args.turns.share.first bs bs
-    (has_first S c.args.turns.site c.args.machine.now.top c.args.turns.share.first c.args.count c.args.found.now c.requires.there.answers) refl c.requires.kinds
+    values_ready S c.args.machine.now.layer.kinds c.args.machine.now.layer.keeps c.args.turns.site c.args.machine.now.top c.args.turns.share.first bs bs
+    (has_first S c.args.machine.now.layer.keeps c.args.turns.site c.args.machine.now.top c.args.turns.share.first c.args.count c.args.found.now c.requires.there.answers) refl c.requires.kinds
 
 pub returns-in-Ok-clause-ahead : goal.returns-in-Ok-clause-ahead
 returns-in-Ok-clause-ahead g c =
@@ -30,7 +30,7 @@ returns-in-Ok-clause-ahead g c =
     let m = c.end_first.new.machine in
     let at = c.requires.there in
     let bs = take c.args.count c.args.found.now in
-    let has : HasBatches S l s.top h.first bs = has_first S l s.top h.first c.args.count c.args.found.now at.answers in
+    let has : HasBatches S s.layer.keeps l s.top h.first bs = has_first S s.layer.keeps l s.top h.first c.args.count c.args.found.now at.answers in
     let done : c.in_ok-end_first.field-0 ≡ true = search rules in
     let first : m ≡ first_left l (k - 1) h bs s = subst (λ d. DoneBy d (m ≡ first_left l (k - 1) h bs s) (m ≡ s)) done c.in_ok-end_first.ensures.ended in
     let less : c.saturating_sub.result ≡ k - 1 = search rules in
@@ -72,7 +72,7 @@ returns-in-Err-clause-ahead g c =
     let m = c.end_first.new.machine in
     let at = c.requires.there in
     let bs = take c.args.count c.args.found.now in
-    let has : HasBatches S l s.top h.first bs = has_first S l s.top h.first c.args.count c.args.found.now at.answers in
+    let has : HasBatches S s.layer.keeps l s.top h.first bs = has_first S s.layer.keeps l s.top h.first c.args.count c.args.found.now at.answers in
     let done : c.in_ok-end_first.field-0 ≡ true = search rules in
     let first : m ≡ first_left l (k - 1) h bs s = subst (λ d. DoneBy d (m ≡ first_left l (k - 1) h bs s) (m ≡ s)) done c.in_ok-end_first.ensures.ended in
     let ahead : IsAnsweredAhead S s (first_left l (k - 1) h bs s) =

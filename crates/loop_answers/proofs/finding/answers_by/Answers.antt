@@ -24,9 +24,9 @@ loop-preserved g c =
     let items : c.put_batch.new.batches.items ≡ xs ++ b ∷ [] = search rules in
     let v : ℤ = to_z w64 (of_z w64 c.number_behind.result) in
     let at : v ≡ low +ℤ pos (first + c.loop.count) = search rules in
-    let one : IsBatchFrom S j s.top.slots s.top.left v left b = subst (λ (x : PlainStrand). IsBatchFrom S j x.top.slots x.top.left v left b) inv.same c.in-Some.ensures.batch in
-    let more : AreBatches S j s.top.slots s.top.left low first (xs ++ b ∷ []) =
-    batches_more S j s.top.slots s.top.left low first xs b v left inv.batches one (at ∙ ap (λ n. low +ℤ pos (first + n)) inv.count) in
+    let one : IsBatchFrom S s.layer.keeps j s.top.slots s.top.left v left b = subst (λ (x : PlainStrand). IsBatchFrom S x.layer.keeps j x.top.slots x.top.left v left b) inv.same c.in-Some.ensures.batch in
+    let more : AreBatches S s.layer.keeps j s.top.slots s.top.left low first (xs ++ b ∷ []) =
+    batches_more S s.layer.keeps j s.top.slots s.top.left low first xs b v left inv.batches one (at ∙ ap (λ n. low +ℤ pos (first + n)) inv.count) in
     let fits : b.count ≤ left = one.few in
     let before : c.loop.count ≤ c.loop.most = inv.few in
     let gap : c.loop.most - left ≡ c.loop.count = omega (arith, before) in
@@ -38,12 +38,12 @@ loop-preserved g c =
       count = ap (λ n. n + b.count) inv.count ∙ sym (instances_more xs b) ∙ ap instances_in (sym items);
       few = omega (arith, room, gap);
       most = omega (arith, less, inv.most);
-      batches = subst (λ (bs : List Batch). AreBatches S j s.top.slots s.top.left low first bs) (sym items) more;
+      batches = subst (λ (bs : List Batch). AreBatches S s.layer.keeps j s.top.slots s.top.left low first bs) (sym items) more;
     }
 
 pub returns-then-count-most-clause-answers : goal.returns-then-count-most-clause-answers
 returns-then-count-most-clause-answers g c =
-    has_so_far (lent c.args.setting) c.args.turns.site c.args.machine.now.top (loop_of c.args.code) c.args.turns.share.first c.loop.batches.items c.found_so_far.result.batches.items
+    has_so_far (lent c.args.setting) c.args.machine.now.layer.keeps c.args.turns.site c.args.machine.now.top (loop_of c.args.code) c.args.turns.share.first c.loop.batches.items c.found_so_far.result.batches.items
     c.requires.code c.in_ok-depth.ensures.memo c.in_ok-depth.ensures.room (rw c.found_so_far.ensures.batches refl) c.loop.invariant.batches
 
 pub returns-then-count-most-clause-count : goal.returns-then-count-most-clause-count
@@ -56,7 +56,7 @@ returns-then-count-most-clause-few g c = omega (arith, c.found_so_far.ensures.co
 
 pub returns-then-asked-eq0-clause-answers : goal.returns-then-asked-eq0-clause-answers
 returns-then-asked-eq0-clause-answers g c =
-    has_so_far (lent c.args.setting) c.args.turns.site c.args.machine.now.top (loop_of c.args.code) c.args.turns.share.first c.loop.batches.items c.found_so_far-then-asked-eq0.result.batches.items
+    has_so_far (lent c.args.setting) c.args.machine.now.layer.keeps c.args.turns.site c.args.machine.now.top (loop_of c.args.code) c.args.turns.share.first c.loop.batches.items c.found_so_far-then-asked-eq0.result.batches.items
     c.requires.code c.in_ok-depth.ensures.memo c.in_ok-depth.ensures.room (rw c.found_so_far-then-asked-eq0.ensures.batches refl) c.loop.invariant.batches
 
 pub returns-then-asked-eq0-clause-count : goal.returns-then-asked-eq0-clause-count
@@ -69,7 +69,7 @@ returns-then-asked-eq0-clause-few g c = omega (arith, c.found_so_far-then-asked-
 
 pub returns-in-None-clause-answers : goal.returns-in-None-clause-answers
 returns-in-None-clause-answers g c =
-    has_so_far (lent c.args.setting) c.args.turns.site c.args.machine.now.top (loop_of c.args.code) c.args.turns.share.first c.loop.batches.items c.found_so_far-in-None.result.batches.items
+    has_so_far (lent c.args.setting) c.args.machine.now.layer.keeps c.args.turns.site c.args.machine.now.top (loop_of c.args.code) c.args.turns.share.first c.loop.batches.items c.found_so_far-in-None.result.batches.items
     c.requires.code c.in_ok-depth.ensures.memo c.in_ok-depth.ensures.room (rw c.found_so_far-in-None.ensures.batches refl) c.loop.invariant.batches
 
 pub returns-in-None-clause-count : goal.returns-in-None-clause-count
@@ -82,7 +82,7 @@ returns-in-None-clause-few g c = omega (arith, c.found_so_far-in-None.ensures.co
 
 pub returns-clause-answers : goal.returns-clause-answers
 returns-clause-answers g c =
-    has_so_far (lent c.args.setting) c.args.turns.site c.args.machine.now.top (loop_of c.args.code) c.args.turns.share.first c.loop.batches.items c.found_so_far-2.result.batches.items
+    has_so_far (lent c.args.setting) c.args.machine.now.layer.keeps c.args.turns.site c.args.machine.now.top (loop_of c.args.code) c.args.turns.share.first c.loop.batches.items c.found_so_far-2.result.batches.items
     c.requires.code c.in_ok-depth.ensures.memo c.in_ok-depth.ensures.room (rw c.found_so_far-2.ensures.batches refl) c.loop.invariant.batches
 
 pub returns-clause-count : goal.returns-clause-count
@@ -96,7 +96,7 @@ returns-clause-few g c = omega (arith, c.found_so_far-2.ensures.count, c.loop.in
 pub returns-then-is_err-clause-answers : goal.returns-then-is_err-clause-answers
 returns-then-is_err-clause-answers g c =
     let kept : c.put_batch.new.batches.items ≡ c.loop.batches.items = search rules in
-    has_so_far (lent c.args.setting) c.args.turns.site c.args.machine.now.top (loop_of c.args.code) c.args.turns.share.first c.loop.batches.items c.found_so_far-then-is_err.result.batches.items
+    has_so_far (lent c.args.setting) c.args.machine.now.layer.keeps c.args.turns.site c.args.machine.now.top (loop_of c.args.code) c.args.turns.share.first c.loop.batches.items c.found_so_far-then-is_err.result.batches.items
     c.requires.code c.in_ok-depth.ensures.memo c.in_ok-depth.ensures.room (rw c.found_so_far-then-is_err.ensures.batches kept) c.loop.invariant.batches
 
 pub returns-then-is_err-clause-count : goal.returns-then-is_err-clause-count
@@ -117,8 +117,8 @@ loop-init g c =
       count = sym (ap instances_in c.new-batches.ensures.items);
       few = omega arith;
       most = c.most_asked-most.ensures.few;
-      batches = subst (λ (bs : List Batch). AreBatches (lent c.args.setting) (loop_of c.args.code) c.args.machine.now.top.slots c.args.machine.now.top.left c.args.turns.site.low c.args.turns.share.first bs)
-          (sym c.new-batches.ensures.items) (none_so_far (lent c.args.setting) (loop_of c.args.code) c.args.machine.now.top.slots c.args.machine.now.top.left c.args.turns.site.low c.args.turns.share.first);
+      batches = subst (λ (bs : List Batch). AreBatches (lent c.args.setting) c.args.machine.now.layer.keeps (loop_of c.args.code) c.args.machine.now.top.slots c.args.machine.now.top.left c.args.turns.site.low c.args.turns.share.first bs)
+          (sym c.new-batches.ensures.items) (none_so_far (lent c.args.setting) c.args.machine.now.layer.keeps (loop_of c.args.code) c.args.machine.now.top.slots c.args.machine.now.top.left c.args.turns.site.low c.args.turns.share.first);
     }
 
 pub batch_from-requires-clause-known : goal.batch_from-requires-clause-known

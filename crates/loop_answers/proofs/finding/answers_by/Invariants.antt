@@ -11,5 +11,5 @@ invariant-loop g l = record {
   count : l.count ≡ instances_in l.batches.items;
   few : l.count ≤ l.most;
   most : l.most ≤ l.search.wanted.most;
-  batches : AreBatches (lent l.setting) (loop_of l.code) l.fn.machine.top.slots l.fn.machine.top.left l.turns.site.low l.turns.share.first l.batches.items;
+  batches : AreBatches (lent l.setting) l.fn.machine.layer.keeps (loop_of l.code) l.fn.machine.top.slots l.fn.machine.top.left l.turns.site.low l.turns.share.first l.batches.items;
 }

@@ -1,11 +1,11 @@
-use Rattle.std.proofs.Common.{rules, ◌≡◌, ◌<◌, ℤ, List, [], map, length, slice_set, IfSome, sym, subst}
+use Rattle.std.proofs.Common.{rules, ◌≡◌, ◌<◌, ℤ, Bool, List, [], map, length, slice_set, IfSome, sym, subst}
 use Rattle.linked_program.specs.Linked.{Linked}
 use Rattle.linked_program.specs.CodeView.{expression}
 use Rattle.evaluation.specs.declared.slot.Slot.TheVariants.{Has}
 use Rattle.evaluation.specs.Values.{values_at, pure}
-use Rattle.activations.specs.Given.{loop_of}
+use Rattle.activations.specs.Given.{lent, loop_of}
 use Rattle.answered_loops.proofs.Arguments.{counted_within, other_values}
-use Rattle.loop_answers.specs.Batches.{CountsAt, AreArguments}
+use Rattle.loop_answers.specs.Batches.{IsBatchFrom, CountsAt, AreArguments}
 use Rattle.loop_answers.proofs.Replays.{batches_answer}
 use Rattle.loop_answers.proofs.finding.batch_from.Goals as goal
 
@@ -45,9 +45,11 @@ returns-in-Some-clause-batch g c =
     let v : ℤ = c.args.ahead.number in
     let vs : List ℤ = slice_set c.args.numbers.now.items c.in-Some.place v in
     let put : c.deref.result.now ≡ vs = search rules in
-    batches_answer c.args.setting.program.now T [] c.args.setting.records.now j s.top.slots s.top.left c.args.ahead.depth c.requires.deep c.requires.depth
-    c.batch.result c.args.ahead.most c.in-Some.place v vs c.deref.result.now put at
-    (other_values T s.top.slots a.variable c.in-Some.place es known.of c.args.numbers.now.items at.counts at.has_slot known.values v) c.batch.ensures.batch
+    let keeps : c.keeps_reads-keeps.result ≡ s.layer.keeps = c.keeps_reads-keeps.ensures.keeps in
+    subst (λ (b : Bool). IfSome c.batch.result (IsBatchFrom (lent c.args.setting) b j s.top.slots s.top.left v c.args.ahead.most)) keeps
+    (batches_answer c.args.setting.program.now T [] c.args.setting.records.now j s.top.slots s.top.left c.args.ahead.depth c.requires.deep c.requires.depth
+    c.keeps_reads-keeps.result c.batch.result c.args.ahead.most c.in-Some.place v vs c.deref.result.now put at
+    (other_values T s.top.slots a.variable c.in-Some.place es known.of c.args.numbers.now.items at.counts at.has_slot known.values v) c.batch.ensures.batch)
 
 pub returns-in-Some-clause-known : goal.returns-in-Some-clause-known
 returns-in-Some-clause-known g c =

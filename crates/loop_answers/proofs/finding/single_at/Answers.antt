@@ -13,6 +13,6 @@ returns-clause-batch g c =
     let j = loop_of a in
     let v : ℤ = to_z w64 (of_z w64 c.args.ahead.number) in
     let same : v ≡ c.args.ahead.number = search rules in
-    subst (λ (u : ℤ). IfSome c.single.result (IsBatchFrom S j s.top.slots s.top.left u c.args.ahead.most)) same
+    subst (λ (u : ℤ). IfSome c.single.result (IsBatchFrom S s.layer.keeps j s.top.slots s.top.left u c.args.ahead.most)) same
     (singles_answer c.args.setting.program.now c.args.setting.tables.now.tables [] c.args.setting.records.now j s.top.slots s.top.left c.args.ahead.depth c.requires.deep c.requires.depth
-    c.single.result c.args.ahead.most v c.unread_values_at.new.numbers.items c.deref.result.now c.deref.ensures.value c.requires.some c.requires.values (c.unread_values_at.ensures.values known) c.single.ensures.single)
+    s.layer.keeps c.single.result c.args.ahead.most v c.unread_values_at.new.numbers.items c.deref.result.now c.deref.ensures.value c.requires.some c.requires.values (c.unread_values_at.ensures.values known) c.single.ensures.single)
