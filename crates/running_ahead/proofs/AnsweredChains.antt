@@ -1,6 +1,7 @@
 -- Iterations that records answer, one behind another, and among them those that are recorded.
-use Rattle.std.proofs.Common.{◌≡◌, ◌∙◌, ℕ, zero, suc, ◌+◌, ◌-◌, ◌<◌, ◌==◌, ℤ, pos, ◌+ℤ◌, false, true, List, [], ◌∷◌, length, None, Some, slice_get, slice_set, map, refl, sym, ap, subst, arith}
+use Rattle.std.proofs.Common.{◌≡◌, ◌∙◌, ℕ, zero, suc, ◌+◌, ◌-◌, ◌<◌, ◌==◌, ℤ, pos, ◌+ℤ◌, Bool, false, true, List, [], ◌∷◌, length, Option, None, Some, slice_get, slice_set, map, refl, sym, ap, subst, arith}
 use Rattle.std.proofs.Math.IntN.{+ℤ_assoc}
+use Rattle.std.specs.Prelude.{IfNone}
 use Rattle.meaning.specs.Elision.{depth_limit}
 use Rattle.meaning.specs.Tables.{Tables}
 use Rattle.monoid_laws.specs.declared.Kind.{Kind}
@@ -12,10 +13,11 @@ use Rattle.evaluation.specs.declared.slot.Slot.{Slot}
 use Rattle.evaluation.specs.declared.slot.Slot.TheVariants.{Has}
 use Rattle.evaluation.specs.Slots.{number_in}
 use Rattle.evaluation.specs.Values.{pure, values_at}
-use Rattle.record_theory.specs.Batches.{AreValidFrom, IsBatch}
+use Rattle.record_theory.specs.Batches.{AreValidFrom}
 use Rattle.record_theory.specs.Record.{PlainRecord}
 use Rattle.record_theory.specs.Sums.{IsSumOf}
 use Rattle.record_theory.specs.Validity.{valid_at}
+use Rattle.rerun_records.specs.Sums.{with_reads, IsBatchFor}
 use Rattle.positions.specs.declared.phase.Phase.TheVariants.{Running}
 use Rattle.positions.specs.declared.work.Loop.{Loop}
 use Rattle.positions.specs.declared.work.Share.{Share}
@@ -32,7 +34,7 @@ use Rattle.own_statements.specs.Fills.{IsCounted}
 use Rattle.answered_loops.specs.Ways.{IsWay}
 use Rattle.answered_loops.specs.Answered.{IsAnswer, IsOfMemo, absorbed, answered_more, with_work}
 use Rattle.answered_loops.proofs.Found.{found_arguments}
-use Rattle.answered_loops.proofs.Sums.{absorbing_sum}
+use Rattle.answered_loops.proofs.Sums.{absorbing_reads, absorbing_sum}
 use Rattle.answered_loops.proofs.Turns.{turn_answered, with_answer}
 use Rattle.running_ahead.specs.AnsweredChains.{AnswerFrom, AreTaken, ArePassed, nothing, recorded, answered}
 use Rattle.running_ahead.specs.Leaves.{PlainLeaf, Gathered, gathered, IsRecorded, AreRecorded, more, arguments_then}
@@ -66,6 +68,12 @@ record_is : (setting : Setting) (d f : ℕ) (xs : List ℤ) → 0 < d → valid_
 record_is setting zero f xs l = absurd (let none : ⊥ = omega arith in none)
 record_is setting (suc d) f xs l = refl
 
+-- that none is valid, where nothing is found
+pub unknown_from : {A : Type 0} (setting : Setting) (o : Option A) (d f : ℕ) (xs : List ℤ) → 0 < d → IfNone o (valid_at setting.program.revisions setting.tables d setting.records f xs ≡ None)
+    → IfNone o (record_for setting d f xs ≡ None)
+unknown_from setting None d f xs l h = sym (record_is setting d f xs l) ∙ h
+unknown_from setting (Some a) d f xs l h = tt
+
 members_answer : (program : PlainChecked) (tables : Tables) (records : List PlainRecord) (d f : ℕ) (x v : ℤ) (rs : List PlainRecord) → 0 < d → AreValidFrom program tables d records f (x ∷ []) 0 v rs
     → AnswerFrom (setting_with program tables [] records) d f v rs
 members_answer program tables records d f x v [] deep h = tt
@@ -75,19 +83,21 @@ members_answer program tables records d f x v (r ∷ rs) deep h =
 first_of : (x y : ℤ) → slice_get (x ∷ []) 0 ≡ Some y → y ≡ x
 first_of x y e = let same : Some x ≡ Some y = e in let is : y ≡ x = cc in is
 
-pub batch_taken : (program : PlainChecked) (tables : Tables) (records : List PlainRecord) (f : PlainLeaf) (most count : ℕ) (sum : PlainRecord) (l m : PlainLayer) (t u : PlainTally) → 0 < depth_limit - f.left
-    → IsBatch program tables (depth_limit - f.left) records f.callee (f.number ∷ []) 0 most count sum → l.kinds ≡ program.kinds → AreWorths l.kinds l.worths
+pub batch_taken : (keeps : Bool) (program : PlainChecked) (tables : Tables) (records : List PlainRecord) (f : PlainLeaf) (most count : ℕ) (sum : PlainRecord) (l m : PlainLayer) (t u : PlainTally) → 0 < depth_limit - f.left
+    → IsBatchFor keeps program tables (depth_limit - f.left) records f.callee (f.number ∷ []) 0 most count sum → keeps ≡ l.keeps → l.kinds ≡ program.kinds → AreWorths l.kinds l.worths
     → m ≡ absorbing sum (depth_limit - f.left) l → u ≡ answered_more count t → AreTaken (setting_with program tables [] records) f count l t m u
-batch_taken program tables records f most count sum l m t u deep batch kinds are layer tally =
+batch_taken keeps program tables records f most count sum l m t u deep asked same kinds are layer tally =
     let d : ℕ = depth_limit - f.left in
+    let batch = asked.batch in
+    let whole : PlainRecord = with_reads asked.reads sum in
     let first : batch.first ≡ f.number = first_of f.number batch.first batch.first_is in
-    let sum_is : IsSumOf l.kinds batch.members sum = subst (λ (ks : List Kind). IsSumOf ks batch.members sum) (sym kinds) batch.sum_is in
+    let sum_is : IsSumOf l.kinds batch.members whole = subst (λ (ks : List Kind). IsSumOf ks batch.members whole) (sym kinds) batch.sum_is in
     record {
       members = batch.members;
       many = batch.count_is;
       answer = members_answer program tables records d f.callee f.number f.number batch.members deep
           (subst (λ (v : ℤ). AreValidFrom program tables d records f.callee (f.number ∷ []) 0 v batch.members) first batch.valid);
-      layer = layer ∙ absorbing_sum d batch.members sum l are sum_is;
+      layer = layer ∙ absorbing_reads d asked.reads sum l (λ k. asked.has (same ∙ k)) ∙ absorbing_sum d batch.members whole l are sum_is;
       tally = tally;
     }
 

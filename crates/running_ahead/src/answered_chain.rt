@@ -3,8 +3,8 @@ ghost use Rattle.std.specs.Prelude.{◌≡◌, ◌∷◌, ◌-◌, ◌≤◌, �
 ghost use Rattle.monoid_laws.specs.Kinds.{AreWorths, IsMonoid};
 ghost use Rattle.meaning.specs.Elision.{depth_limit};
 ghost use Rattle.linked_program.specs.CodeView.{expression as plain, memo_of};
-ghost use Rattle.record_theory.specs.Batches.{IsBatch};
 ghost use Rattle.record_theory.specs.Named.{AreValuesFrom, HaveValues};
+ghost use Rattle.rerun_records.specs.Sums.{IsBatchFor};
 ghost use Rattle.positions.specs.Activations.{ShareFits};
 ghost use Rattle.positions.specs.Advance.{record_for};
 ghost use Rattle.positions.specs.Code.{loop_at};
@@ -16,7 +16,7 @@ ghost use Rattle.own_statements.specs.Runs.{IsBody};
 ghost use Rattle.running_ahead.specs.AnsweredChains.{ArePassed, IsRefusedTurn};
 ghost use Rattle.running_ahead.specs.Leaves.{AreRecorded, IsRefusedLeaf, arguments_then, gathered_of, plain_leaf};
 
-use crate::leaf::{Leaf, is_answered, record_leaf};
+use crate::leaf::{Leaf, record_leaf};
 use crate::leaf_chain::{Stretch, record_chain};
 use activations::code::{LoopCode, instructions};
 use activations::setting::Setting;
@@ -28,21 +28,18 @@ use small_steps::machine::Machine;
 use std::alloc::{AllocError, Global};
 use view_pool::{Kit, View};
 
-/// So many iterations at most, the place near which the record of the first one may lie, and whether the one before it was recorded: then
-/// it is likely that no record answers this one.
+/// So many iterations at most, and the place near which the record of the first one may lie.
 #[derive(Clone, Copy)]
 struct Ahead {
     most: u32,
     near: usize,
-    is_behind_new: bool,
 }
 
-/// So many iterations are over, the record of the next one may lie near that place, and whether the last one was recorded.
+/// So many iterations are over, and the record of the next one may lie near that place.
 #[derive(Clone, Copy)]
 struct Passed {
     count: u32,
     near: usize,
-    is_new: bool,
 }
 
 /// Goes through a stretch of iterations one after another: those that records answer are taken over, and each other one is recorded in a
@@ -137,7 +134,6 @@ fn answered_chain<V: View>(
     let mut kit = kit;
     let mut done = 0;
     let mut near = stretch.share.first as usize;
-    let mut is_behind_new = false;
     for _ in 0..stretch.most {
         if done == stretch.most {
             return Ok((done, kit));
@@ -152,7 +148,6 @@ fn answered_chain<V: View>(
         let ahead = Ahead {
             most: stretch.most - done,
             near,
-            is_behind_new,
         };
         match go_on(machine, alloc, setting, leaf, ahead, kit) {
             Ok((passed, back)) => {
@@ -162,7 +157,6 @@ fn answered_chain<V: View>(
                     return Ok((done, kit));
                 }
                 near = passed.near;
-                is_behind_new = passed.is_new;
             }
             Err(refused) => return Err(refused),
         }
@@ -200,25 +194,19 @@ fn go_on<V: View>(
     ensures values { HaveValues setting.entry.program.now.kinds machine.old.tally.made
         → HaveValues setting.entry.program.now.kinds machine.new.tally.made }
 {
-    let (found, is_unknown) = next_from(setting, leaf, ahead);
-    match found {
+    let keeps = keeps_reads(machine);
+    match answers_from(setting, leaf, ahead, keeps) {
         Some(batch) => {
             let passed = Passed {
                 count: batch.count,
                 near: batch.next,
-                is_new: false,
             };
             match take_batch(machine, alloc, setting, leaf, batch) {
                 Ok(()) => Ok((passed, kit)),
                 Err(_) => Err(Some(kit)),
             }
         }
-        None => {
-            if !is_unknown {
-                return Ok((nothing(ahead), kit));
-            }
-            record_next(machine, alloc, setting, leaf, ahead, kit)
-        }
+        None => record_next(machine, alloc, setting, leaf, ahead, kit),
     }
 }
 
@@ -230,40 +218,35 @@ fn nothing(ahead: Ahead) -> Passed
     Passed {
         count: 0,
         near: ahead.near,
-        is_new: false,
     }
 }
 
-/// The records that answer iterations from that one on, as `answers_from` finds them; else whether it is known that none answers that one.
+/// Whether the loop's layer keeps what is read.
 #[inline(always)]
-fn next_from<'a>(setting: Setting<'a>, leaf: Leaf<'_>, ahead: Ahead) -> (Option<Batch<'a>>, bool)
-    requires some { 0 < ahead.most }
-    requires answers { HaveValues setting.program.now.kinds setting.records.now }
-    ensures deep { OnSome result.0 (0 < depth_limit - leaf.entry.left) }
-    ensures batch { IfSome result.0 (λ b. IsBatch setting.entry.program.now setting.entry.tables.now.tables
-        (depth_limit - leaf.entry.left) setting.entry.records.now leaf.entry.callee (leaf.entry.number ∷ []) 0
-        ahead.most b.count b.sum.now) }
-    ensures unknown { result.1 ≡ true
-        → record_for (lent setting.entry) (depth_limit - leaf.entry.left) leaf.entry.callee (leaf.entry.number ∷ []) ≡ None }
+fn keeps_reads<V: View>(machine: &Machine<V>) -> bool
+    ensures keeps { result ≡ machine.now.layer.keeps }
 {
-    if ahead.is_behind_new && !is_answered(setting, leaf) {
-        return (None, true);
-    }
-    match answers_from(setting, leaf, ahead) {
-        Some(batch) => (Some(batch), false),
-        None => (None, !is_answered(setting, leaf)),
-    }
+    machine.layer.keeps
 }
 
-/// The records that answer iterations from that one on, at most so many, as many as go together; none where none answers that one.
+/// The records that answer iterations from that one on, at most so many, as many as go together, with what they have read where that is
+/// kept; none where none answers that one.
 #[inline(always)]
-fn answers_from<'a>(setting: Setting<'a>, leaf: Leaf<'_>, ahead: Ahead) -> Option<Batch<'a>>
+#[tactic(auto, using(crate::proofs::AnsweredChains::unknown_from))]
+fn answers_from<'a>(
+    setting: Setting<'a>,
+    leaf: Leaf<'_>,
+    ahead: Ahead,
+    keeps: bool,
+) -> Option<Batch<'a>>
     requires some { 0 < ahead.most }
     requires answers { HaveValues setting.program.now.kinds setting.records.now }
     ensures deep { OnSome result (0 < depth_limit - leaf.entry.left) }
-    ensures batch { IfSome result (λ b. IsBatch setting.entry.program.now setting.entry.tables.now.tables
+    ensures batch { IfSome result (λ b. IsBatchFor keeps setting.entry.program.now setting.entry.tables.now.tables
         (depth_limit - leaf.entry.left) setting.entry.records.now leaf.entry.callee (leaf.entry.number ∷ []) 0
         ahead.most b.count b.sum.now) }
+    ensures unknown { IfNone result
+        (record_for (lent setting.entry) (depth_limit - leaf.entry.left) leaf.entry.callee (leaf.entry.number ∷ []) ≡ None) }
 {
     let depth = DEEPEST.saturating_sub(leaf.left);
     if depth == 0 {
@@ -274,6 +257,7 @@ fn answers_from<'a>(setting: Setting<'a>, leaf: Leaf<'_>, ahead: Ahead) -> Optio
         most: ahead.most,
         depth,
         near: ahead.near,
+        keeps,
     };
     setting.records.batch(
         leaf.callee,
@@ -348,7 +332,6 @@ fn record_next<V: View>(
     let one = Passed {
         count: 1,
         near: ahead.near.wrapping_add(1),
-        is_new: true,
     };
     match record_leaf(machine, alloc, setting, leaf, kit) {
         Ok((true, back)) => Ok((one, back)),

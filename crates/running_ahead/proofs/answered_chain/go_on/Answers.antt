@@ -1,7 +1,7 @@
-use Rattle.std.proofs.Common.{◌-◌, ◌<◌, ◌∷◌, [], Option, IfSome, OnSome, subst}
+use Rattle.std.proofs.Common.{◌-◌, ◌<◌, ◌∷◌, []}
 use Rattle.meaning.specs.Elision.{depth_limit}
 use Rattle.rerun_records.specs.declared.batch.Batch.{Batch}
-use Rattle.record_theory.specs.Batches.{IsBatch}
+use Rattle.rerun_records.specs.Sums.{IsBatchFor}
 use Rattle.positions.specs.Strands.{PlainStrand}
 use Rattle.running_ahead.specs.AnsweredChains.{answered}
 use Rattle.running_ahead.specs.Leaves.{plain_leaf}
@@ -15,8 +15,9 @@ returns-in-Ok-clause-passed g c =
     let n : PlainStrand = c.take_batch.new.machine in
     let f = plain_leaf c.args.leaf in
     let b : Batch = c.in-Some.batch in
-    let deep : 0 < depth_limit - f.left = subst (λ (o : Option Batch). OnSome o (0 < depth_limit - f.left)) c.in-Some.is c.next_from-is_unknown.ensures.deep in
-    let batch : IsBatch S.program.now S.tables.now.tables (depth_limit - f.left) S.records.now f.callee (f.number ∷ []) 0 c.args.ahead.most b.count b.sum.now =
-    subst (λ (o : Option Batch). IfSome o (λ (q : Batch). IsBatch S.program.now S.tables.now.tables (depth_limit - f.left) S.records.now f.callee (f.number ∷ []) 0 c.args.ahead.most q.count q.sum.now)) c.in-Some.is c.next_from-is_unknown.ensures.batch in
-    answered (batch_taken S.program.now S.tables.now.tables S.records.now f c.args.ahead.most b.count b.sum.now m.layer n.layer m.tally n.tally
-    deep batch c.requires.kinds c.take_batch.ensures.worths c.in-Ok.ensures.layer c.in-Ok.ensures.tally)
+    let deep : 0 < depth_limit - f.left = c.in-Some.ensures.deep in
+    let keeps = c.keeps_reads-keeps.result in
+    let batch : IsBatchFor keeps S.program.now S.tables.now.tables (depth_limit - f.left) S.records.now f.callee (f.number ∷ []) 0 c.args.ahead.most b.count b.sum.now =
+    c.in-Some.ensures.batch in
+    answered (batch_taken keeps S.program.now S.tables.now.tables S.records.now f c.args.ahead.most b.count b.sum.now m.layer n.layer m.tally n.tally
+    deep batch c.keeps_reads-keeps.ensures.keeps c.requires.kinds c.take_batch.ensures.worths c.in-Ok.ensures.layer c.in-Ok.ensures.tally)
