@@ -361,7 +361,22 @@ impl<V: View> Hypermap<V> {
         ensures refused { OnErr result (self.new.worths ≡ self.old.worths) }
     {
         let copy = copy_of(alloc, value)?;
-        match absorb_at(&mut self.views, &mut self.used, reducer, copy) {
+        self.absorb_value(reducer, copy)
+    }
+
+    /// Combines a value on the right of one reducer's value; where memory is refused all values stay.
+    #[inline(always)]
+    pub fn absorb_value(&mut self, reducer: usize, value: Val) -> Result<(), AllocError>
+        requires reducer_is { reducer < length self.old.kinds }
+        requires of_kind { (c : Kind) → IsAt self.old.kinds reducer c → IsWorth c (meaning value) }
+        ensures kinds { self.new.kinds ≡ self.old.kinds }
+        ensures absorbed { (c : Kind) (x : Worth) → IsAt self.old.kinds reducer c
+            → IsAt self.old.worths reducer x
+            → OnOk result (
+            self.new.worths ≡ slice_set self.old.worths reducer (operate c x (meaning value))) }
+        ensures refused { OnErr result (self.new.worths ≡ self.old.worths) }
+    {
+        match absorb_at(&mut self.views, &mut self.used, reducer, value) {
             Ok(()) => Ok(()),
             Err(_) => Err(AllocError),
         }
