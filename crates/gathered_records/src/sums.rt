@@ -1,23 +1,27 @@
 //! One record that has what several have together.
 ghost use Rattle.std.specs.Prelude.{◌≡◌, ◌-◌, ◌<◌, ◌≤◌, ◌++◌, ◌∷◌, [], IfOk, IfSome, OnOk, All, length, map};
-ghost use Rattle.std.specs.Prelude.{slice_get, slice_index_or, slice_set, None, Some, true};
+ghost use Rattle.std.specs.Prelude.{slice_get, slice_index_or, slice_set, None, Some, pos, true};
 ghost use Rattle.std.specs.List.{list_any};
 ghost use Rattle.monoid_laws.specs.Worth.{Worth};
 ghost use Rattle.monoid_laws.specs.declared.Kind.{Kind as PlainKind};
+ghost use Rattle.monoid_laws.specs.declared.Val.TheVariants.{Int, Arg};
 ghost use Rattle.monoid_laws.specs.Kinds.{meaning, identities, operate, operate_all, AreWorths, IsMonoid, IsWorth};
 ghost use Rattle.meaning.specs.Elision.{depth_limit};
 ghost use Rattle.record_theory.specs.Record.{PlainRecord, touched};
 ghost use Rattle.record_theory.specs.Named.{filled, AreValuesFrom, HaveValues};
-ghost use Rattle.instance_records.specs.ShortLists.{items_in};
+ghost use Rattle.instance_records.specs.Parts.{entries_in};
+ghost use Rattle.instance_records.specs.Gifts.{given_by};
 ghost use Rattle.record_theory.specs.Sums.{arguments_of_last};
 ghost use Rattle.rerun_records.specs.Sums.{IsSumFor};
 ghost use Rattle.gathered_records.specs.Summing.{nothing_summed, kept_reads, added, summed, worth_in, same_entry, put_entry, put_entries};
 ghost use Rattle.gathered_records.specs.Summing.{numbered_from, at_places, HasSummed};
 
+use instance_records::arguments::Arguments;
+use instance_records::entries::Entries;
+use instance_records::gift::{Gift, gifts};
 use instance_records::readings::Readings;
 use instance_records::record::Record;
 use instance_records::several::Several;
-use instance_records::short_list::ShortList;
 use meaning::DEPTH_LIMIT;
 use monoid_laws::{Kind, Val};
 use reducer_values::{combine, combine_copy, identity};
@@ -36,13 +40,13 @@ pub(crate) struct Sum {
     // The value of each reducer behind its number.
     values: Vec<(usize, Val)>,
     reads: Several,
-    entered: ShortList<(usize, u64)>,
+    entered: Entries,
     height: u32,
 }
 
 impl Model for Sum {
     ghost use Rattle.std.specs.Prelude.{map};
-    ghost use Rattle.instance_records.specs.ShortLists.{items_in};
+    ghost use Rattle.instance_records.specs.Parts.{entries_in};
     ghost use Rattle.gathered_records.specs.Summing.{PlainSum, worth_in};
 
     ghost Value = { PlainSum };
@@ -51,7 +55,7 @@ impl Model for Sum {
       keeps = s.keeps;
       worths = map worth_in s.values.items;
       reads = s.reads;
-      entered = items_in s.entered;
+      entered = entries_in s.entered;
       height = s.height;
     } };
 }
@@ -72,7 +76,7 @@ impl Sum {
             keeps,
             values: units(alloc, kinds)?,
             reads: Several::new(alloc, room_if(keeps, records), room_if(keeps, parts))?,
-            entered: ShortList::new(Vec::new(alloc)),
+            entered: Entries::Nothing,
             height: 0,
         })
     }
@@ -113,13 +117,14 @@ impl Sum {
         if !are_numbered(&self.values) {
             return Err(AllocError);
         }
-        let arguments = ShortList::from_slice(alloc, last.arguments())?;
+        let arguments = Arguments::from_slice(alloc, last.arguments())?;
         let reads = self.reads.finish(alloc)?;
+        let given = gifts(alloc, self.values)?;
         Ok(Record::new(
             last.procedure(),
             arguments,
             last.value(),
-            self.values,
+            given,
             reads,
             self.entered,
             self.height,
@@ -269,18 +274,68 @@ fn add_values(
     held: &mut Vec<(usize, Val)>,
     alloc: Global,
     kinds: &[Kind],
-    values: &[(usize, Val)],
+    values: &[Gift],
 ) -> Result<(), AllocError>
     requires monoids { All IsMonoid kinds.now }
     requires worths { AreWorths kinds.now (map worth_in held.old.items) }
-    requires values { AreValuesFrom 0 kinds.now (map touched values.now) }
+    requires values { AreValuesFrom 0 kinds.now (map touched (map given_by values.now)) }
     ensures added { OnOk result (map worth_in held.new.items
-        ≡ operate_all kinds.now (map worth_in held.old.items) (filled (identities kinds.now) (map touched values.now))) }
+        ≡ operate_all kinds.now (map worth_in held.old.items) (filled (identities kinds.now) (map touched (map given_by values.now)))) }
 {
     for entry in values {
-        add_at(held, alloc, kinds, entry.0, &entry.1)?;
+        add_gift(held, alloc, kinds, entry)?;
     }
     Ok(())
+}
+
+// Combines a copy of what a reducer was given on the right of its value.
+#[inline(always)]
+fn add_gift(
+    held: &mut Vec<(usize, Val)>,
+    alloc: Global,
+    kinds: &[Kind],
+    gift: &Gift,
+) -> Result<(), AllocError>
+    requires there { (given_by gift.now).0 < length kinds.now }
+    requires worths { AreWorths kinds.now (map worth_in held.old.items) }
+    requires of_kind { (c : PlainKind) → c ≡ slice_index_or kinds.now (given_by gift.now).0 c
+        → IsWorth c (meaning (given_by gift.now).1) }
+    ensures added { (c : PlainKind) (x : Worth) → c ≡ slice_index_or kinds.now (given_by gift.now).0 c
+        → x ≡ slice_index_or (map worth_in held.old.items) (given_by gift.now).0 x
+        → OnOk result (map worth_in held.new.items
+        ≡ slice_set (map worth_in held.old.items) (given_by gift.now).0 (operate c x (meaning (given_by gift.now).1))) }
+{
+    match gift {
+        Gift::Number { reducer, number } => {
+            let value = value_of(number);
+            add_at(held, alloc, kinds, usize::from(*reducer), &value)
+        }
+        Gift::Best {
+            reducer,
+            second,
+            first,
+        } => {
+            let value = best_of(first, second);
+            add_at(held, alloc, kinds, usize::from(*reducer), &value)
+        }
+        Gift::Other(other) => add_at(held, alloc, kinds, other.0, &other.1),
+    }
+}
+
+// The value that is that number.
+#[inline(always)]
+fn value_of(number: &i64) -> Val
+    ensures same { result ≡ Int number.now }
+{
+    Val::Int(*number)
+}
+
+// The value that is the best pair of these numbers.
+#[inline(always)]
+fn best_of(first: &i64, second: &u32) -> Val
+    ensures same { result ≡ Arg (Some (first.now, pos second.now)) }
+{
+    Val::Arg(Some((*first, i64::from(*second))))
 }
 
 // Combines a copy of a value on the right of the reducer of that number.
@@ -407,10 +462,10 @@ fn are_few<T: Drop>(pieces: &[Vec<T>]) -> bool {
 #[inline(always)]
 fn add_entries(
     alloc: Global,
-    entries: &mut ShortList<(usize, u64)>,
+    entries: &mut Entries,
     more: &[(usize, u64)],
 ) -> Result<(), AllocError>
-    ensures put { OnOk result (items_in entries.new ≡ put_entries (items_in entries.old) more.now) }
+    ensures put { OnOk result (entries_in entries.new ≡ put_entries (entries_in entries.old) more.now) }
 {
     if is_same_one(entries, more) {
         return Ok(());
@@ -420,11 +475,11 @@ fn add_entries(
 
 // Whether there is one entry, and the others are that one alone. Then it is there.
 #[inline(always)]
-fn is_same_one(entries: &ShortList<(usize, u64)>, more: &[(usize, u64)]) -> bool
-    ensures same { result ≡ true → put_entries (items_in entries.now) more.now ≡ items_in entries.now }
+fn is_same_one(entries: &Entries, more: &[(usize, u64)]) -> bool
+    ensures same { result ≡ true → put_entries (entries_in entries.now) more.now ≡ entries_in entries.now }
 {
     match entries {
-        ShortList::One(entry) => is_only(entry, more),
+        Entries::One(entry) => is_only(entry, more),
         _ => false,
     }
 }
@@ -443,12 +498,8 @@ fn is_only(entry: &(usize, u64), more: &[(usize, u64)]) -> bool
 
 // Puts in the entries that aren't there, one by one.
 #[inline(never)]
-fn add_each(
-    alloc: Global,
-    entries: &mut ShortList<(usize, u64)>,
-    more: &[(usize, u64)],
-) -> Result<(), AllocError>
-    ensures put { OnOk result (items_in entries.new ≡ put_entries (items_in entries.old) more.now) }
+fn add_each(alloc: Global, entries: &mut Entries, more: &[(usize, u64)]) -> Result<(), AllocError>
+    ensures put { OnOk result (entries_in entries.new ≡ put_entries (entries_in entries.old) more.now) }
 {
     for entry in more {
         add_entry(alloc, entries, entry)?;
@@ -458,12 +509,8 @@ fn add_each(
 
 // Puts in an entry, unless it is there; refused where they get too many.
 #[inline(always)]
-fn add_entry(
-    alloc: Global,
-    entries: &mut ShortList<(usize, u64)>,
-    entry: &(usize, u64),
-) -> Result<(), AllocError>
-    ensures put { OnOk result (items_in entries.new ≡ put_entry (items_in entries.old) entry.now) }
+fn add_entry(alloc: Global, entries: &mut Entries, entry: &(usize, u64)) -> Result<(), AllocError>
+    ensures put { OnOk result (entries_in entries.new ≡ put_entry (entries_in entries.old) entry.now) }
 {
     if is_entered(entries.as_slice(), entry) {
         return Ok(());
@@ -473,12 +520,8 @@ fn add_entry(
 
 // Puts an entry behind the others; refused where they get too many.
 #[inline(never)]
-fn put_entry(
-    alloc: Global,
-    entries: &mut ShortList<(usize, u64)>,
-    entry: &(usize, u64),
-) -> Result<(), AllocError>
-    ensures put { OnOk result (items_in entries.new ≡ items_in entries.old ++ entry.now ∷ []) }
+fn put_entry(alloc: Global, entries: &mut Entries, entry: &(usize, u64)) -> Result<(), AllocError>
+    ensures put { OnOk result (entries_in entries.new ≡ entries_in entries.old ++ entry.now ∷ []) }
 {
     if entries.as_slice().len() >= MOST {
         return Err(AllocError);

@@ -10,3 +10,4 @@ pub mod Runs
 pub mod Together
 pub mod Sums
 pub mod Holding
+pub mod Givings

@@ -1,6 +1,9 @@
 //! The record of one memo instance: what it came to, and what it has read.
 #![tactic(auto)]
 
+pub mod arguments;
+pub mod entries;
+pub mod gift;
 pub mod hull;
 pub mod key;
 pub mod narrowing;

@@ -9,15 +9,19 @@ ghost use Rattle.meaning.specs.Elision.{depth_limit};
 ghost use Rattle.meaning.specs.Every.{every};
 ghost use Rattle.record_theory.specs.Record.{touched, made_of, as_made};
 ghost use Rattle.instance_records.specs.ShortLists.{items_in};
+ghost use Rattle.instance_records.specs.Parts.{arguments_in, entries_in};
+ghost use Rattle.instance_records.specs.Gifts.{given_by};
 ghost use Rattle.record_theory.specs.InStep.{reads_agree};
 ghost use Rattle.record_theory.specs.Numbers.{is_counted, numbered_by};
 ghost use Rattle.record_theory.specs.Validity.{has_revision, record_holds, record_valid};
 
+use crate::arguments::Arguments;
+use crate::entries::Entries;
+use crate::gift::Gift;
 use crate::readings::Readings;
 use crate::short_list::ShortList;
 use input_tables::Tables;
 use linked_program::checked::Checked;
-use monoid_laws::Val;
 use record_numbers::stale::is_fresh;
 use record_theory::validity::{are_current, is_allowed, is_valid};
 use std::hash::{Hash, Hasher};
@@ -28,11 +32,11 @@ use std::marker::Model;
 #[derive(Drop)]
 pub struct Record {
     procedure: usize,
-    arguments: ShortList<i64>,
+    arguments: Arguments,
     value: i64,
-    contribution: ShortList<(usize, Val)>,
+    contribution: ShortList<Gift>,
     reads: Readings,
-    entered: ShortList<(usize, u64)>,
+    entered: Entries,
     height: u32,
 }
 
@@ -40,16 +44,18 @@ impl Model for Record {
     ghost use Rattle.std.specs.Prelude.{map};
     ghost use Rattle.record_theory.specs.Record.{PlainRecord, touched};
     ghost use Rattle.instance_records.specs.ShortLists.{items_in};
+    ghost use Rattle.instance_records.specs.Parts.{arguments_in, entries_in};
+    ghost use Rattle.instance_records.specs.Gifts.{given_by};
 
     ghost Value = { PlainRecord };
 
     ghost view = { λ r. record {
       procedure = r.procedure;
-      arguments = items_in r.arguments;
+      arguments = arguments_in r.arguments;
       value = r.value;
-      contribution = map touched (items_in r.contribution);
+      contribution = map touched (map given_by (items_in r.contribution));
       reads = r.reads;
-      entered = items_in r.entered;
+      entered = entries_in r.entered;
       height = r.height;
       stale = 0;
     } };
@@ -61,24 +67,23 @@ impl Record {
     /// it at most, itself counted. Reducers and procedures go by their numbers. It takes no memory, and keeps no spare room.
     pub fn new(
         procedure: usize,
-        mut arguments: ShortList<i64>,
+        arguments: Arguments,
         value: i64,
-        mut contribution: Vec<(usize, Val)>,
+        mut contribution: ShortList<Gift>,
         reads: Readings,
-        mut entered: ShortList<(usize, u64)>,
+        mut entered: Entries,
         height: u32,
     ) -> Record
-        ensures made { result ≡ made_of procedure (items_in arguments) value contribution.items reads
-            (items_in entered) height }
+        ensures made { result ≡ made_of procedure (arguments_in arguments) value
+            (map given_by (items_in contribution)) reads (entries_in entered) height }
     {
-        arguments.shrink_to_fit();
         contribution.shrink_to_fit();
         entered.shrink_to_fit();
         Record::of_values(
             procedure,
             arguments,
             value,
-            ShortList::new(contribution),
+            contribution,
             reads,
             entered,
             height,
@@ -89,15 +94,15 @@ impl Record {
     #[inline(always)]
     pub fn of_values(
         procedure: usize,
-        arguments: ShortList<i64>,
+        arguments: Arguments,
         value: i64,
-        contribution: ShortList<(usize, Val)>,
+        contribution: ShortList<Gift>,
         reads: Readings,
-        entered: ShortList<(usize, u64)>,
+        entered: Entries,
         height: u32,
     ) -> Record
-        ensures made { result ≡ made_of procedure (items_in arguments) value (items_in contribution)
-            reads (items_in entered) height }
+        ensures made { result ≡ made_of procedure (arguments_in arguments) value
+            (map given_by (items_in contribution)) reads (entries_in entered) height }
     {
         Record {
             procedure,
@@ -139,8 +144,8 @@ impl Record {
     }
 
     /// Lends the values that the instance gave to the reducers that it touched, each with the reducer's number.
-    pub fn contribution(&self) -> &[(usize, Val)]
-        ensures contribution { map touched result.now ≡ self.now.contribution }
+    pub fn contribution(&self) -> &[Gift]
+        ensures contribution { map touched (map given_by result.now) ≡ self.now.contribution }
     {
         self.contribution.as_slice()
     }

@@ -1,7 +1,11 @@
 -- What one reducer or two have for a record.
-use Rattle.std.proofs.Common.{◌≡◌, ℕ, List, [], ◌∷◌, ◌++◌, length, ap, ◌∙◌, sym, arith, get_or}
+use Rattle.std.proofs.Common.{◌≡◌, ℕ, List, [], ◌∷◌, ◌++◌, length, map, ap, ◌∙◌, sym, arith, get_or}
+use Rattle.std.proofs.lemmas.List.{map-append}
 use Rattle.monoid_laws.specs.Worth.{Worth}
 use Rattle.monoid_laws.specs.declared.Kind.{Kind}
+use Rattle.record_theory.specs.Record.{touched}
+use Rattle.instance_records.specs.declared.gift.Gift.{Gift}
+use Rattle.instance_records.specs.Gifts.{given_by}
 use Rattle.positions.specs.Tallies.{touched_from, touched_at}
 use Rattle.layers.proofs.Touches.{touched_step}
 
@@ -27,3 +31,13 @@ two_touched (x ∷ y ∷ []) (a ∷ b ∷ c ∷ ws) j k v w n l e f g h = absurd
 two_touched (x ∷ y ∷ []) (a ∷ b ∷ []) j k v w n l e f g h =
     ap (λ es. es ++ touched_at 1 k w) (same_touched 0 j x v a e g) ∙ ap (λ es. touched_at 0 x a ++ es) (same_touched 1 k y w b f h)
     ∙ sym (touched_step 0 x (y ∷ []) a (b ∷ []))
+
+-- what is kept of one reducer's value, then of the other's
+pub both_kept : (first second all : List Gift) {xs ys : List (ℕ × Worth)} → all ≡ first ++ second → map touched (map given_by first) ≡ xs → map touched (map given_by second) ≡ ys
+    → map touched (map given_by all) ≡ xs ++ ys
+both_kept first second all {xs} {ys} joined one two =
+    ap (λ gs. map touched (map given_by gs)) joined
+    ∙ ap (map touched) (map-append given_by first second)
+    ∙ map-append touched (map given_by first) (map given_by second)
+    ∙ ap (λ es. es ++ map touched (map given_by second)) one
+    ∙ ap (λ es. xs ++ es) two

@@ -1,9 +1,14 @@
 // A layer takes over what a record has, or what a layer has that becomes a record.
-ghost use Rattle.std.specs.Prelude.{◌≡◌, ◌<◌, ◌++◌, List, IfOk, OnErr, OnOk, All, map, slice_set, vec_len, vec_capacity, true};
-ghost use Rattle.monoid_laws.specs.Kinds.{IsMonoid};
+ghost use Rattle.std.specs.Prelude.{◌≡◌, ◌<◌, ◌++◌, List, IfOk, OnErr, OnOk, All, Some, length, map, pos, slice_set, vec_len, vec_capacity, true};
+ghost use Rattle.monoid_laws.specs.Worth.{Worth};
+ghost use Rattle.monoid_laws.specs.declared.Kind.{Kind};
+ghost use Rattle.monoid_laws.specs.declared.Val.TheVariants.{Int, Arg};
+ghost use Rattle.monoid_laws.specs.Kinds.{IsMonoid, IsWorth, meaning, operate};
+ghost use Rattle.hypermaps.specs.Layer.{IsAt};
 ghost use Rattle.evaluation.specs.declared.note.Note.{Note};
 ghost use Rattle.record_theory.specs.Record.{touched};
 ghost use Rattle.record_theory.specs.Named.{AreValuesFrom};
+ghost use Rattle.instance_records.specs.Gifts.{given_by};
 ghost use Rattle.instance_records.specs.Readings.{all_of};
 ghost use Rattle.positions.specs.Layers.{absorbing, covered, flagged, kept_behind, kept_reads};
 ghost use Rattle.layers.specs.Folds.{HasSameProduct, IsSameButWorths, combined_with, reads_in};
@@ -11,6 +16,7 @@ ghost use Rattle.layers.specs.Folds.{HasSameProduct, IsSameButWorths, combined_w
 use crate::joining::flag_all;
 use crate::layer::Layer;
 use hypermaps::Hypermap;
+use instance_records::gift::Gift;
 use instance_records::readings::Readings;
 use instance_records::record::Record;
 use monoid_laws::Val;
@@ -71,19 +77,64 @@ impl<V: View> Layer<V> {
 fn absorb_values<V: View>(
     hypermap: &mut Hypermap<V>,
     alloc: Global,
-    values: &[(usize, Val)],
+    values: &[Gift],
 ) -> Result<(), AllocError>
     requires monoids { All IsMonoid hypermap.old.kinds }
-    requires values { AreValuesFrom 0 hypermap.old.kinds (map touched values.now) }
+    requires values { AreValuesFrom 0 hypermap.old.kinds (map touched (map given_by values.now)) }
     ensures kinds { hypermap.new.kinds ≡ hypermap.old.kinds }
     ensures absorbed { OnOk result (hypermap.new.worths
-        ≡ combined_with (map touched values.now) hypermap.old.kinds hypermap.old.worths) }
+        ≡ combined_with (map touched (map given_by values.now)) hypermap.old.kinds hypermap.old.worths) }
 {
     let _ = hypermap.len();
     for entry in values {
-        hypermap.absorb_one(alloc, entry.0, &entry.1)?;
+        absorb_gift(hypermap, alloc, entry)?;
     }
     Ok(())
+}
+
+/// Combines a copy of what a reducer was given on the right of its value; where memory is refused all values stay.
+#[inline(always)]
+fn absorb_gift<V: View>(
+    hypermap: &mut Hypermap<V>,
+    alloc: Global,
+    gift: &Gift,
+) -> Result<(), AllocError>
+    requires reducer_is { (given_by gift.now).0 < length hypermap.old.kinds }
+    requires of_kind { (c : Kind) → IsAt hypermap.old.kinds (given_by gift.now).0 c
+        → IsWorth c (meaning (given_by gift.now).1) }
+    ensures kinds { hypermap.new.kinds ≡ hypermap.old.kinds }
+    ensures absorbed { (c : Kind) (x : Worth) → IsAt hypermap.old.kinds (given_by gift.now).0 c
+        → IsAt hypermap.old.worths (given_by gift.now).0 x
+        → OnOk result (hypermap.new.worths
+        ≡ slice_set hypermap.old.worths (given_by gift.now).0 (operate c x (meaning (given_by gift.now).1))) }
+{
+    match gift {
+        Gift::Number { reducer, number } => {
+            hypermap.absorb_value(usize::from(*reducer), value_of(number))
+        }
+        Gift::Best {
+            reducer,
+            second,
+            first,
+        } => { hypermap.absorb_value(usize::from(*reducer), best_of(first, second)) }
+        Gift::Other(held) => hypermap.absorb_one(alloc, held.0, &held.1),
+    }
+}
+
+/// The value that is that number.
+#[inline(always)]
+fn value_of(number: &i64) -> Val
+    ensures same { result ≡ Int number.now }
+{
+    Val::Int(*number)
+}
+
+/// The value that is the best pair of these numbers.
+#[inline(always)]
+fn best_of(first: &i64, second: &u32) -> Val
+    ensures same { result ≡ Arg (Some (first.now, pos second.now)) }
+{
+    Val::Arg(Some((*first, i64::from(*second))))
 }
 
 /// Those readings for a layer that keeps readings; none for one that doesn't.

@@ -1,14 +1,16 @@
 // What one reducer or two have for a record, which needs no list to be gathered in.
-ghost use Rattle.std.specs.Prelude.{◌≡◌, ◌++◌, ◌<◌, IfOk, length, map, option_to_list};
+ghost use Rattle.std.specs.Prelude.{◌≡◌, ◌++◌, ◌∷◌, [], ◌<◌, IfOk, IfSome, length, map, option_to_list};
 ghost use Rattle.monoid_laws.specs.Worth.{Worth};
 ghost use Rattle.monoid_laws.specs.Kinds.{meaning};
 ghost use Rattle.hypermaps.specs.Layer.{IsAt};
 ghost use Rattle.record_theory.specs.Named.{AreValuesFrom};
 ghost use Rattle.record_theory.specs.Record.{touched};
 ghost use Rattle.instance_records.specs.ShortLists.{items_in};
+ghost use Rattle.instance_records.specs.Gifts.{given_by};
 ghost use Rattle.positions.specs.Tallies.{touched_from, touched_at};
 
 use hypermaps::Hypermap;
+use instance_records::gift::Gift;
 use instance_records::short_list::ShortList;
 use monoid_laws::{Kind, Val};
 use positions::identities::is_identity;
@@ -22,16 +24,16 @@ pub(crate) fn value_of_one<V: View>(
     alloc: Global,
     hypermap: &Hypermap<V>,
     kinds: &[Kind],
-) -> Result<ShortList<(usize, Val)>, AllocError>
+) -> Result<ShortList<Gift>, AllocError>
     requires kinds { hypermap.now.kinds ≡ kinds.now }
     requires one { length kinds.now ≡ 1 }
     ensures touched { IfOk result (λ c.
-        map touched (items_in c) ≡ touched_from 0 hypermap.now.kinds hypermap.now.worths) }
+        map touched (map given_by (items_in c)) ≡ touched_from 0 hypermap.now.kinds hypermap.now.worths) }
     ensures values { IfOk result (λ c.
-        AreValuesFrom 0 hypermap.now.kinds (map touched (items_in c))) }
+        AreValuesFrom 0 hypermap.now.kinds (map touched (map given_by (items_in c)))) }
 {
     let _ = hypermap.len();
-    let first = touched_value(hypermap, 0, &kinds[0])?;
+    let first = touched_value(alloc, hypermap, 0, &kinds[0])?;
     Ok(one_listed(alloc, first))
 }
 
@@ -41,18 +43,18 @@ pub(crate) fn values_of_used<V: View>(
     alloc: Global,
     hypermap: &Hypermap<V>,
     kinds: &[Kind],
-) -> Result<ShortList<(usize, Val)>, AllocError>
+) -> Result<ShortList<Gift>, AllocError>
     requires kinds { hypermap.now.kinds ≡ kinds.now }
     requires two { length kinds.now ≡ 2 }
     ensures touched { IfOk result (λ c.
-        map touched (items_in c) ≡ touched_from 0 hypermap.now.kinds hypermap.now.worths) }
+        map touched (map given_by (items_in c)) ≡ touched_from 0 hypermap.now.kinds hypermap.now.worths) }
     ensures values { IfOk result (λ c.
-        AreValuesFrom 0 hypermap.now.kinds (map touched (items_in c))) }
+        AreValuesFrom 0 hypermap.now.kinds (map touched (map given_by (items_in c)))) }
 {
     let _ = hypermap.len();
     let first = hypermap.value(0)?;
     match hypermap.value(1) {
-        Ok(second) => Ok(pair_listed(alloc, &kinds[0], &kinds[1], first, second)),
+        Ok(second) => Ok(pair_listed(alloc, &kinds[0], &kinds[1], first, second)?),
         Err(error) => {
             let_go(first);
             Err(error)
@@ -66,17 +68,17 @@ pub(crate) fn values_of_some<V: View>(
     alloc: Global,
     hypermap: &Hypermap<V>,
     kinds: &[Kind],
-) -> Result<ShortList<(usize, Val)>, AllocError>
+) -> Result<ShortList<Gift>, AllocError>
     requires kinds { hypermap.now.kinds ≡ kinds.now }
     requires two { length kinds.now ≡ 2 }
     ensures touched { IfOk result (λ c.
-        map touched (items_in c) ≡ touched_from 0 hypermap.now.kinds hypermap.now.worths) }
+        map touched (map given_by (items_in c)) ≡ touched_from 0 hypermap.now.kinds hypermap.now.worths) }
     ensures values { IfOk result (λ c.
-        AreValuesFrom 0 hypermap.now.kinds (map touched (items_in c))) }
+        AreValuesFrom 0 hypermap.now.kinds (map touched (map given_by (items_in c)))) }
 {
     let _ = hypermap.len();
-    let first = touched_value(hypermap, 0, &kinds[0])?;
-    match touched_value(hypermap, 1, &kinds[1]) {
+    let first = touched_value(alloc, hypermap, 0, &kinds[0])?;
+    match touched_value(alloc, hypermap, 1, &kinds[1]) {
         Ok(second) => Ok(both_listed(alloc, first, second)),
         Err(error) => {
             let_go(first);
@@ -92,25 +94,43 @@ pub(crate) fn let_go<T: Drop>(_value: T) {}
 /// A reducer's number with a copy of its value, unless that is the identity.
 #[inline(always)]
 fn touched_value<V: View>(
+    alloc: Global,
     hypermap: &Hypermap<V>,
     reducer: usize,
     kind: &Kind,
-) -> Result<Option<(usize, Val)>, AllocError>
+) -> Result<Option<Gift>, AllocError>
     requires there { reducer < length hypermap.now.kinds }
     requires kind { IsAt hypermap.now.kinds reducer kind.now }
     ensures touched { (w : Worth) → IsAt hypermap.now.worths reducer w
-        → IfOk result (λ v. map touched (option_to_list v) ≡ touched_at reducer kind.now w) }
+        → IfOk result (λ v. map touched (map given_by (option_to_list v)) ≡ touched_at reducer kind.now w) }
 {
     let _ = hypermap.len();
     match hypermap.used_value(reducer)? {
-        Some(value) => Ok(unless_identity(reducer, kind, value)),
+        Some(value) => kept_value(alloc, reducer, kind, value),
+        None => Ok(None),
+    }
+}
+
+/// What a record keeps of a reducer's value, unless that is the identity.
+#[inline(always)]
+pub(crate) fn kept_value(
+    alloc: Global,
+    reducer: usize,
+    kind: &Kind,
+    value: Val,
+) -> Result<Option<Gift>, AllocError>
+    ensures touched { IfOk result (λ v.
+        map touched (map given_by (option_to_list v)) ≡ touched_at reducer kind.now (meaning value)) }
+{
+    match unless_identity(reducer, kind, value) {
+        Some(entry) => Ok(Some(Gift::new(alloc, entry.0, entry.1)?)),
         None => Ok(None),
     }
 }
 
 /// The list of one value, where it is there. It takes no memory.
 #[inline(always)]
-fn one_listed(alloc: Global, value: Option<(usize, Val)>) -> ShortList<(usize, Val)>
+fn one_listed(alloc: Global, value: Option<Gift>) -> ShortList<Gift>
     ensures listed { items_in result ≡ option_to_list value }
 {
     match value {
@@ -121,11 +141,7 @@ fn one_listed(alloc: Global, value: Option<(usize, Val)>) -> ShortList<(usize, V
 
 /// The list of two values, of those that are there. It takes no memory.
 #[inline(always)]
-fn both_listed(
-    alloc: Global,
-    first: Option<(usize, Val)>,
-    second: Option<(usize, Val)>,
-) -> ShortList<(usize, Val)>
+fn both_listed(alloc: Global, first: Option<Gift>, second: Option<Gift>) -> ShortList<Gift>
     ensures listed { items_in result ≡ option_to_list first ++ option_to_list second }
 {
     match first {
@@ -137,7 +153,7 @@ fn both_listed(
     }
 }
 
-/// The list of these values of the first two reducers, without those that are the identities. It takes no memory.
+/// The list of these values of the first two reducers, without those that are the identities.
 #[inline(always)]
 fn pair_listed(
     alloc: Global,
@@ -145,17 +161,64 @@ fn pair_listed(
     second_kind: &Kind,
     first: Val,
     second: Val,
-) -> ShortList<(usize, Val)>
-    ensures touched { map touched (items_in result)
-        ≡ touched_at 0 first_kind.now (meaning first) ++ touched_at 1 second_kind.now (meaning second) }
+) -> Result<ShortList<Gift>, AllocError>
+    ensures touched { IfOk result (λ c. map touched (map given_by (items_in c))
+        ≡ touched_at 0 first_kind.now (meaning first) ++ touched_at 1 second_kind.now (meaning second)) }
 {
     if is_identity(first_kind, &first) || is_identity(second_kind, &second) {
         return some_listed(alloc, first_kind, second_kind, first, second);
     }
-    ShortList::Two([(0, first), (1, second)])
+    Ok(ShortList::Two(two_gifts(alloc, first, second)?))
 }
 
-/// The list of those of these two values that aren't the identities. It takes no memory.
+/// What two reducers were given, which most often takes no memory.
+#[inline(always)]
+pub(crate) fn two_gifts(alloc: Global, first: Val, second: Val) -> Result<[Gift; 2], AllocError>
+    ensures given { IfOk result (λ gifts.
+        map touched (map given_by gifts) ≡ (0, meaning first) ∷ (1, meaning second) ∷ []) }
+{
+    match two_short(&first, &second) {
+        Some(gifts) => {
+            let_go_short(first);
+            let_go_short(second);
+            Ok(gifts)
+        }
+        None => two_long(alloc, first, second),
+    }
+}
+
+/// The same, where both take no memory.
+#[inline(always)]
+fn two_short(first: &Val, second: &Val) -> Option<[Gift; 2]>
+    ensures given { IfSome result (λ gifts.
+        map touched (map given_by gifts) ≡ (0, meaning first.now) ∷ (1, meaning second.now) ∷ []) }
+{
+    let one = Gift::short(0, first)?;
+    let two = Gift::short(1, second)?;
+    Some([one, two])
+}
+
+/// The same, whatever they take.
+#[inline(never)]
+fn two_long(alloc: Global, first: Val, second: Val) -> Result<[Gift; 2], AllocError>
+    ensures given { IfOk result (λ gifts.
+        map touched (map given_by gifts) ≡ (0, meaning first) ∷ (1, meaning second) ∷ []) }
+{
+    let one = Gift::new(alloc, 0, first)?;
+    let two = Gift::new(alloc, 1, second)?;
+    Ok([one, two])
+}
+
+/// Lets go a value that most often takes no memory.
+#[inline(always)]
+fn let_go_short(value: Val) {
+    match value {
+        Val::Int(_) | Val::Arg(_) => {}
+        other => let_go(other),
+    }
+}
+
+/// The list of those of these two values that aren't the identities.
 #[inline(never)]
 fn some_listed(
     alloc: Global,
@@ -163,11 +226,11 @@ fn some_listed(
     second_kind: &Kind,
     first: Val,
     second: Val,
-) -> ShortList<(usize, Val)>
-    ensures touched { map touched (items_in result)
-        ≡ touched_at 0 first_kind.now (meaning first) ++ touched_at 1 second_kind.now (meaning second) }
+) -> Result<ShortList<Gift>, AllocError>
+    ensures touched { IfOk result (λ c. map touched (map given_by (items_in c))
+        ≡ touched_at 0 first_kind.now (meaning first) ++ touched_at 1 second_kind.now (meaning second)) }
 {
-    let one = unless_identity(0, first_kind, first);
-    let two = unless_identity(1, second_kind, second);
-    both_listed(alloc, one, two)
+    let one = kept_value(alloc, 0, first_kind, first)?;
+    let two = kept_value(alloc, 1, second_kind, second)?;
+    Ok(both_listed(alloc, one, two))
 }

@@ -3,17 +3,17 @@ ghost use Rattle.std.specs.Prelude.{◌≡◌, ◌++◌, ◌∷◌, [], OnOk, is
 ghost use Rattle.instance_records.specs.ShortLists.{items_in};
 ghost use Rattle.layers.specs.Gatherings.{gathered_in};
 
+use instance_records::gift::Gift;
 use instance_records::short_list::ShortList;
-use monoid_laws::Val;
 use std::alloc::{AllocError, Global};
 use std::mem;
 
 /// The first two by themselves; where there are more, all lie in the list.
 #[derive(Drop)]
 pub(crate) struct Gathered {
-    first: Option<(usize, Val)>,
-    second: Option<(usize, Val)>,
-    several: Vec<(usize, Val)>,
+    first: Option<Gift>,
+    second: Option<Gift>,
+    several: Vec<Gift>,
 }
 
 impl Gathered {
@@ -31,12 +31,7 @@ impl Gathered {
     /// Puts a value behind the others, which are so many at most.
     #[inline(always)]
     #[tactic(auto, using(crate::proofs::Gatherings::second_put))]
-    pub(crate) fn put(
-        &mut self,
-        alloc: Global,
-        value: (usize, Val),
-        most: usize,
-    ) -> Result<(), AllocError>
+    pub(crate) fn put(&mut self, alloc: Global, value: Gift, most: usize) -> Result<(), AllocError>
         ensures put { OnOk result (gathered_in self.new ≡ gathered_in self.old ++ value ∷ []) }
     {
         if self.first.is_none() {
@@ -52,7 +47,7 @@ impl Gathered {
     /// Puts a value behind those that all lie in the list.
     #[inline(always)]
     #[tactic(auto, using(crate::proofs::Gatherings::first_put, crate::proofs::Gatherings::other_put))]
-    fn put_first(&mut self, value: (usize, Val)) -> Result<(), AllocError>
+    fn put_first(&mut self, value: Gift) -> Result<(), AllocError>
         requires none { is_none self.old.first ≡ true }
         ensures put { OnOk result (gathered_in self.new ≡ gathered_in self.old ++ value ∷ []) }
     {
@@ -67,12 +62,7 @@ impl Gathered {
 
     /// Puts a third value behind two, with room for so many.
     #[inline(never)]
-    fn put_third(
-        &mut self,
-        alloc: Global,
-        value: (usize, Val),
-        most: usize,
-    ) -> Result<(), AllocError>
+    fn put_third(&mut self, alloc: Global, value: Gift, most: usize) -> Result<(), AllocError>
         requires first { is_none self.old.first ≡ false }
         requires second { is_none self.old.second ≡ false }
         ensures put { OnOk result (gathered_in self.new ≡ gathered_in self.old ++ value ∷ []) }
@@ -94,7 +84,7 @@ impl Gathered {
 
     /// The list of them, without spare room. It takes no memory.
     #[inline(always)]
-    pub(crate) fn into_list(self) -> ShortList<(usize, Val)>
+    pub(crate) fn into_list(self) -> ShortList<Gift>
         ensures same { items_in result ≡ gathered_in self }
     {
         let Gathered {

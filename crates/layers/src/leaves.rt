@@ -4,7 +4,9 @@ ghost use Rattle.std.specs.Prelude.{true, ◌≡◌, ◌∷◌, [], ◌&&◌, �
 ghost use Rattle.monoid_laws.specs.Kinds.{IsMonoid, meaning};
 ghost use Rattle.hypermaps.specs.Layer.{IsAt};
 ghost use Rattle.evaluation.specs.Short.{note_of};
+ghost use Rattle.instance_records.specs.Gifts.{given_by};
 ghost use Rattle.instance_records.specs.Readings.{all_of};
+ghost use Rattle.record_theory.specs.Record.{touched};
 ghost use Rattle.positions.specs.Layers.{covered, kept_behind, kept_reads};
 ghost use Rattle.positions.specs.Tallies.{touched_from, entries_from};
 ghost use Rattle.layers.specs.Folds.{HasSameProduct, IsSameButWorths};
@@ -16,6 +18,8 @@ use crate::layer::Layer;
 use crate::recording::{Opened, are_of_two_columns, only_up, two_reads};
 use evaluation::reading::Reading;
 use hypermaps::Hypermap;
+use instance_records::entries::Entries;
+use instance_records::gift::Gift;
 use instance_records::readings::Readings;
 use instance_records::record::Record;
 use instance_records::short_list::ShortList;
@@ -132,19 +136,17 @@ pub(crate) fn are_touched<V: View>(
     true
 }
 
-/// The record of an instance that is over: of these values of the first two reducers, and of two readings. It takes no
-/// memory.
+/// The record of an instance that is over: of what it gave to two reducers, and of two readings. It takes no memory.
 #[inline(always)]
 pub(crate) fn record_of_two(
     opened: Opened,
-    first: Val,
-    second: Val,
+    gifts: [Gift; 2],
     found: &[Reading],
     leaf: Leaf,
 ) -> Record
     requires two { length found.now ≡ 2 }
     ensures record { result ≡ recorded (record {
-      contribution = (0, meaning first) ∷ (1, meaning second) ∷ [];
+      contribution = map touched (map given_by gifts);
       reads = map note_of found.now;
       entered = (leaf.procedure, leaf.revision) ∷ [];
       levels = leaf.levels;
@@ -155,9 +157,9 @@ pub(crate) fn record_of_two(
         procedure,
         arguments,
         leaf.value,
-        ShortList::Two([(0, first), (1, second)]),
+        ShortList::Two(gifts),
         two_reads(found),
-        ShortList::One((leaf.procedure, leaf.revision)),
+        Entries::One((leaf.procedure, leaf.revision)),
         height(leaf.levels, left),
     )
 }

@@ -9,6 +9,8 @@ ghost use Rattle.record_theory.specs.Record.{touched};
 ghost use Rattle.record_theory.specs.Named.{AreValuesFrom};
 ghost use Rattle.instance_records.specs.Readings.{all_of};
 ghost use Rattle.instance_records.specs.ShortLists.{items_in};
+ghost use Rattle.instance_records.specs.Parts.{arguments_in, entries_in};
+ghost use Rattle.instance_records.specs.Gifts.{given_by};
 ghost use Rattle.record_theory.specs.Same.{same_note};
 ghost use Rattle.positions.specs.Layers.{kept_reads as kept_reads_of};
 ghost use Rattle.positions.specs.Values.{once, put_note};
@@ -16,7 +18,7 @@ ghost use Rattle.positions.specs.Tallies.{touched_from, touched_at, entries_from
 ghost use Rattle.layers.specs.Gatherings.{gathered_in};
 ghost use Rattle.layers.specs.Recordings.{recording_of, recorded, entry_of};
 
-use crate::few_values::{value_of_one, values_of_some, values_of_used};
+use crate::few_values::{kept_value, value_of_one, values_of_some, values_of_used};
 use crate::gathered::Gathered;
 use crate::layer::Layer;
 use crate::rising::are_rising;
@@ -25,6 +27,9 @@ use evaluation::notes::Notes;
 use evaluation::reading::{Reading, readings};
 use hypermaps::Hypermap;
 use indexmap::IndexSet;
+use instance_records::arguments::Arguments;
+use instance_records::entries::Entries;
+use instance_records::gift::Gift;
 use instance_records::readings::Readings;
 use instance_records::record::Record;
 use instance_records::short_list::ShortList;
@@ -32,7 +37,6 @@ use linked_program::checked::Checked;
 use monoid_laws::{Kind, Val};
 use positions::heights::height;
 use positions::readings::is_among;
-use positions::touched::unless_identity;
 use std::alloc::{AllocError, Global};
 use std::marker::Model;
 use view_pool::View;
@@ -42,18 +46,18 @@ use view_pool::View;
 #[derive(Drop)]
 pub struct Opened {
     procedure: usize,
-    arguments: ShortList<i64>,
+    arguments: Arguments,
     left: u32,
     depth: usize,
 }
 
 impl Model for Opened {
     ghost use Rattle.positions.specs.Tallies.{PlainOpened};
-    ghost use Rattle.instance_records.specs.ShortLists.{items_in};
+    ghost use Rattle.instance_records.specs.Parts.{arguments_in};
 
     ghost Value = { PlainOpened };
 
-    ghost view = { λ o. record { procedure = o.procedure; arguments = items_in o.arguments; left = o.left; depth = o.depth } };
+    ghost view = { λ o. record { procedure = o.procedure; arguments = arguments_in o.arguments; left = o.left; depth = o.depth } };
 }
 
 impl Opened {
@@ -71,7 +75,7 @@ impl Opened {
     {
         Ok(Opened {
             procedure,
-            arguments: ShortList::from_slice(alloc, arguments)?,
+            arguments: Arguments::from_slice(alloc, arguments)?,
             left,
             depth,
         })
@@ -79,9 +83,9 @@ impl Opened {
 
     /// Its procedure, its arguments, and how many levels there are below it.
     #[inline(always)]
-    pub(crate) fn into_parts(self) -> (usize, ShortList<i64>, u32)
+    pub(crate) fn into_parts(self) -> (usize, Arguments, u32)
         ensures procedure { result.0 ≡ self.procedure }
-        ensures arguments { items_in result.1 ≡ self.arguments }
+        ensures arguments { arguments_in result.1 ≡ self.arguments }
         ensures left { result.2 ≡ self.left }
     {
         let Opened {
@@ -105,9 +109,9 @@ impl Opened {
 /// nested at most, main counted.
 #[derive(Drop)]
 pub(crate) struct Recording {
-    contribution: ShortList<(usize, Val)>,
+    contribution: ShortList<Gift>,
     reads: Readings,
-    entered: ShortList<(usize, u64)>,
+    entered: Entries,
     levels: u32,
 }
 
@@ -115,11 +119,18 @@ impl Model for Recording {
     ghost use Rattle.std.specs.Prelude.{map};
     ghost use Rattle.record_theory.specs.Record.{touched};
     ghost use Rattle.instance_records.specs.ShortLists.{items_in};
+    ghost use Rattle.instance_records.specs.Parts.{entries_in};
+    ghost use Rattle.instance_records.specs.Gifts.{given_by};
     ghost use Rattle.layers.specs.Recordings.{PlainRecording};
 
     ghost Value = { PlainRecording };
 
-    ghost view = { λ r. record { contribution = map touched (items_in r.contribution); reads = r.reads; entered = items_in r.entered; levels = r.levels } };
+    ghost view = { λ r. record {
+      contribution = map touched (map given_by (items_in r.contribution));
+      reads = r.reads;
+      entered = entries_in r.entered;
+      levels = r.levels;
+    } };
 }
 
 impl Recording {
@@ -128,14 +139,14 @@ impl Recording {
     pub(crate) fn new<V: View>(
         _layer: &Layer<V>,
         _program: &Checked,
-        contribution: ShortList<(usize, Val)>,
+        contribution: ShortList<Gift>,
         reads: Readings,
-        entered: ShortList<(usize, u64)>,
+        entered: Entries,
         levels: u32,
     ) -> Recording
-        requires touched { map touched (items_in contribution) ≡ touched_from 0 _layer.now.kinds _layer.now.worths }
+        requires touched { map touched (map given_by (items_in contribution)) ≡ touched_from 0 _layer.now.kinds _layer.now.worths }
         requires kept { reads ≡ kept_reads_of _layer.now }
-        requires entries { items_in entered ≡ entries_from 0 _program.now.revisions _layer.now.entered }
+        requires entries { entries_in entered ≡ entries_from 0 _program.now.revisions _layer.now.entered }
         requires levels { levels ≡ suc _layer.now.deepest }
         ensures recording { result ≡ recording_of _program.now.revisions _layer.now }
     {
@@ -223,12 +234,12 @@ impl<V: View> Layer<V> {
         &self,
         alloc: Global,
         program: &Checked,
-    ) -> Result<ShortList<(usize, Val)>, AllocError>
+    ) -> Result<ShortList<Gift>, AllocError>
         requires kinds { self.now.kinds ≡ program.now.kinds }
         ensures touched { IfOk result (λ c.
-            map touched (items_in c) ≡ touched_from 0 self.now.kinds self.now.worths) }
+            map touched (map given_by (items_in c)) ≡ touched_from 0 self.now.kinds self.now.worths) }
         ensures values { IfOk result (λ c.
-            AreValuesFrom 0 self.now.kinds (map touched (items_in c))) }
+            AreValuesFrom 0 self.now.kinds (map touched (map given_by (items_in c)))) }
     {
         let kinds = program.kinds();
         match kinds.len() {
@@ -254,13 +265,9 @@ impl<V: View> Layer<V> {
 
     /// The numbers of the procedures that were entered, each with its revision number.
     #[inline(always)]
-    pub(crate) fn entries(
-        &self,
-        alloc: Global,
-        program: &Checked,
-    ) -> Result<ShortList<(usize, u64)>, AllocError>
+    pub(crate) fn entries(&self, alloc: Global, program: &Checked) -> Result<Entries, AllocError>
         ensures entries { IfOk result (λ es.
-            items_in es ≡ entries_from 0 program.now.revisions self.now.entered) }
+            entries_in es ≡ entries_from 0 program.now.revisions self.now.entered) }
     {
         entries(alloc, &self.entered, program)
     }
@@ -272,12 +279,12 @@ fn contribution_of_many<V: View>(
     alloc: Global,
     hypermap: &Hypermap<V>,
     kinds: &[Kind],
-) -> Result<ShortList<(usize, Val)>, AllocError>
+) -> Result<ShortList<Gift>, AllocError>
     requires kinds { hypermap.now.kinds ≡ kinds.now }
     ensures touched { IfOk result (λ c.
-        map touched (items_in c) ≡ touched_from 0 hypermap.now.kinds hypermap.now.worths) }
+        map touched (map given_by (items_in c)) ≡ touched_from 0 hypermap.now.kinds hypermap.now.worths) }
     ensures values { IfOk result (λ c.
-        AreValuesFrom 0 hypermap.now.kinds (map touched (items_in c))) }
+        AreValuesFrom 0 hypermap.now.kinds (map touched (map given_by (items_in c)))) }
 {
     let _ = hypermap.len();
     let mut values = Gathered::new(alloc);
@@ -298,8 +305,8 @@ fn push_touched<V: View>(
     requires there { reducer < length hypermap.now.kinds }
     requires kind { IsAt hypermap.now.kinds reducer kind.now }
     ensures pushed { (w : Worth) → IsAt hypermap.now.worths reducer w → OnOk result
-        (map touched (gathered_in values.new)
-        ≡ map touched (gathered_in values.old) ++ touched_at reducer kind.now w) }
+        (map touched (map given_by (gathered_in values.new))
+        ≡ map touched (map given_by (gathered_in values.old)) ++ touched_at reducer kind.now w) }
 {
     let _ = hypermap.len();
     match hypermap.used_value(reducer)? {
@@ -317,11 +324,11 @@ fn push_value(
     value: Val,
     most: usize,
 ) -> Result<(), AllocError>
-    ensures pushed { OnOk result (map touched (gathered_in values.new)
-        ≡ map touched (gathered_in values.old) ++ touched_at reducer kind.now (meaning value)) }
+    ensures pushed { OnOk result (map touched (map given_by (gathered_in values.new))
+        ≡ map touched (map given_by (gathered_in values.old)) ++ touched_at reducer kind.now (meaning value)) }
 {
-    match unless_identity(reducer, kind, value) {
-        Some(value) => values.put(alloc, value, most),
+    match kept_value(alloc, reducer, kind, value)? {
+        Some(gift) => values.put(alloc, gift, most),
         None => Ok(()),
     }
 }
@@ -485,16 +492,12 @@ fn mark(seen: &mut IndexSet<Note>, note: Note) -> Result<(), AllocError>
 
 /// The numbers of the procedures whose flags are up, each with its revision number. That of the only one is put into its list at once.
 #[inline(always)]
-fn entries(
-    alloc: Global,
-    flags: &[bool],
-    program: &Checked,
-) -> Result<ShortList<(usize, u64)>, AllocError>
+fn entries(alloc: Global, flags: &[bool], program: &Checked) -> Result<Entries, AllocError>
     ensures entries { IfOk result (λ es.
-        items_in es ≡ entries_from 0 program.now.revisions flags.now) }
+        entries_in es ≡ entries_from 0 program.now.revisions flags.now) }
 {
     match only_up(flags) {
-        Some(procedure) => Ok(entry_of_one(alloc, procedure, program)),
+        Some(procedure) => Ok(entry_of_one(procedure, program)),
         None => entries_of_all(alloc, flags, program),
     }
 }
@@ -518,26 +521,22 @@ pub(crate) fn only_up(flags: &[bool]) -> Option<usize>
 
 /// The number of a procedure, where there is one, with its revision number, in a list. It takes no memory.
 #[inline(always)]
-fn entry_of_one(alloc: Global, procedure: usize, program: &Checked) -> ShortList<(usize, u64)>
-    ensures entry { items_in result ≡ entry_of procedure (slice_get program.now.revisions procedure) }
+fn entry_of_one(procedure: usize, program: &Checked) -> Entries
+    ensures entry { entries_in result ≡ entry_of procedure (slice_get program.now.revisions procedure) }
 {
     match program.revision_at(procedure) {
-        Some(revision) => ShortList::One((procedure, revision)),
-        None => ShortList::new(Vec::new(alloc)),
+        Some(revision) => Entries::One((procedure, revision)),
+        None => Entries::Nothing,
     }
 }
 
 /// The numbers of the procedures whose flags are up, however many, each with its revision number.
 #[inline(never)]
-fn entries_of_all(
-    alloc: Global,
-    flags: &[bool],
-    program: &Checked,
-) -> Result<ShortList<(usize, u64)>, AllocError>
+fn entries_of_all(alloc: Global, flags: &[bool], program: &Checked) -> Result<Entries, AllocError>
     ensures entries { IfOk result (λ es.
-        items_in es ≡ entries_from 0 program.now.revisions flags.now) }
+        entries_in es ≡ entries_from 0 program.now.revisions flags.now) }
 {
-    let mut entries = ShortList::new(Vec::new(alloc));
+    let mut entries = Entries::Nothing;
     for procedure in 0..flags.len() {
         if flags[procedure] {
             push_entry(alloc, &mut entries, procedure, program)?;
@@ -550,12 +549,12 @@ fn entries_of_all(
 /// Puts the number of a procedure, where there is one, with its revision number behind the others.
 fn push_entry(
     alloc: Global,
-    entries: &mut ShortList<(usize, u64)>,
+    entries: &mut Entries,
     procedure: usize,
     program: &Checked,
 ) -> Result<(), AllocError>
-    ensures pushed { OnOk result (items_in entries.new
-        ≡ items_in entries.old ++ entry_of procedure (slice_get program.now.revisions procedure)) }
+    ensures pushed { OnOk result (entries_in entries.new
+        ≡ entries_in entries.old ++ entry_of procedure (slice_get program.now.revisions procedure)) }
 {
     if let Some(revision) = program.revision_at(procedure) {
         entries.push(alloc, (procedure, revision))?;

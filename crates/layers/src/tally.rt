@@ -1,19 +1,21 @@
 //! What a strand has counted and recorded of memo instances.
-ghost use Rattle.std.specs.Prelude.{◌≡◌, ◌∷◌, [], suc, ◌+◌, IfOk, OnErr, OnOk, All, length};
-ghost use Rattle.monoid_laws.specs.Kinds.{IsMonoid, meaning};
+ghost use Rattle.std.specs.Prelude.{◌≡◌, ◌∷◌, [], suc, ◌+◌, IfOk, OnErr, OnOk, All, length, map};
+ghost use Rattle.monoid_laws.specs.Kinds.{IsMonoid};
+ghost use Rattle.record_theory.specs.Record.{touched};
 ghost use Rattle.record_theory.specs.Named.{AreValuesFrom, HaveValues};
+ghost use Rattle.instance_records.specs.Gifts.{given_by};
 ghost use Rattle.positions.specs.Layers.{multiplied, covered, absorbing, kept_reads};
 ghost use Rattle.positions.specs.Tallies.{no_tally, passing, answering, opening, is_own, closing, tallies_joined, touched_from, entries_from};
 ghost use Rattle.layers.specs.Folds.{IsSameButWorths, HasSameProduct, BothHaveValues};
 
-use crate::few_values::let_go;
+use crate::few_values::{let_go, two_gifts};
 use crate::layer::Layer;
 use crate::leaves::{Leaf, are_touched, record_of_two};
 use crate::recording::Opened;
+use instance_records::gift::Gift;
 use instance_records::record::Record;
 use linked_program::checked::Checked;
 use list_pieces::pieces::Pieces;
-use monoid_laws::Val;
 use std::alloc::{AllocError, Global};
 use std::marker::Model;
 use view_pool::View;
@@ -298,18 +300,18 @@ impl Tally {
             let_go(second);
             return self.close_any(alloc, top, below, value, program);
         }
-        self.close_of_two(top, below, program, first, second, leaf)
+        let gifts = two_gifts(alloc, first, second)?;
+        self.close_of_two(top, below, program, gifts, leaf)
     }
 
-    /// The same with these values of the two reducers, none of which is the identity.
+    /// The same with what the instance gave to the two reducers.
     #[inline(always)]
     fn close_of_two<V: View>(
         &mut self,
         top: &mut Layer<V>,
         below: &mut Layer<V>,
         _program: &Checked,
-        first: Val,
-        second: Val,
+        gifts: [Gift; 2],
         leaf: Leaf,
     ) -> Result<(), AllocError>
         requires two_notes { length top.old.notes ≡ 2 }
@@ -317,7 +319,7 @@ impl Tally {
         requires entry { entries_from 0 _program.now.revisions top.old.entered ≡ (leaf.procedure, leaf.revision) ∷ [] }
         requires levels { leaf.levels ≡ suc top.old.deepest }
         requires touched { touched_from 0 top.old.kinds top.old.worths
-            ≡ (0, meaning first) ∷ (1, meaning second) ∷ [] }
+            ≡ map touched (map given_by gifts) }
         requires kinds { top.old.kinds ≡ _program.now.kinds }
         requires same_kinds { below.old.kinds ≡ top.old.kinds }
         requires monoids { All IsMonoid below.old.kinds }
@@ -335,25 +337,19 @@ impl Tally {
     {
         top.of_kinds();
         if self.made.make_room().is_err() {
-            let_go(first);
-            let_go(second);
+            let_go(gifts);
             return Err(AllocError);
         }
         if below.cover_of_two(top).is_err() {
-            let_go(first);
-            let_go(second);
+            let_go(gifts);
             return Err(AllocError);
         }
         match self.opened.pop() {
             Some(opened) => {
                 let found = top.notes.readings();
-                self.made
-                    .push(record_of_two(opened, first, second, found, leaf));
+                self.made.push(record_of_two(opened, gifts, found, leaf));
             }
-            None => {
-                let_go(first);
-                let_go(second);
-            }
+            None => let_go(gifts),
         }
         Ok(())
     }

@@ -4,6 +4,7 @@ use Rattle.monoid_laws.specs.Worth.{Worth}
 use Rattle.monoid_laws.specs.Kinds.{meaning}
 use Rattle.hypermaps.specs.Layer.{IsAt}
 use Rattle.record_theory.specs.Record.{touched}
+use Rattle.instance_records.specs.Gifts.{given_by}
 use Rattle.layers.specs.Gatherings.{gathered_in}
 use Rattle.positions.specs.Tallies.{touched_at}
 use Rattle.record_theory.proofs.Absorbed.{each, same_at}
@@ -18,13 +19,13 @@ returns-in-Some g c = record {
       let held : IsAt c.args.hypermap.now.worths c.args.reducer (meaning c.in-Some.value) =
       some_is (λ v. IsAt c.args.hypermap.now.worths c.args.reducer (meaning v)) c.in_ok-value.field-0 c.in-Some.value c.in-Some.is c.in_ok-value.ensures.used in
       let same : meaning c.in-Some.value ≡ w = same_at ws c.args.reducer (meaning c.in-Some.value) w less held at in
-      subst (λ v. OnOk c.push_value.result (map touched (gathered_in c.push_value.new.values) ≡ map touched (gathered_in c.args.values.now) ++ touched_at c.args.reducer c.args.kind.now v)) same c.push_value.ensures.pushed;
+      subst (λ v. OnOk c.push_value.result (map touched (map given_by (gathered_in c.push_value.new.values)) ≡ map touched (map given_by (gathered_in c.args.values.now)) ++ touched_at c.args.reducer c.args.kind.now v)) same c.push_value.ensures.pushed;
 }
 
 pub returns-in-None : goal.returns-in-None
 returns-in-None g c = record {
   pushed = λ w at.
-      sym (append-nil (map touched (gathered_in c.args.values.now)))
-      ∙ ap (λ xs. map touched (gathered_in c.args.values.now) ++ xs)
+      sym (append-nil (map touched (map given_by (gathered_in c.args.values.now))))
+      ∙ ap (λ xs. map touched (map given_by (gathered_in c.args.values.now)) ++ xs)
       (sym (identity_untouched c.args.reducer c.args.kind.now w (c.in_ok-value.ensures.unused (search rules) c.args.kind.now w c.requires.kind at)));
 }

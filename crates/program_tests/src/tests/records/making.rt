@@ -7,6 +7,9 @@ ghost use Rattle.record_theory.specs.Validity.{record_holds};
 use evaluation::note::Note;
 use evaluation::reading::readings;
 use input_tables::Tables;
+use instance_records::arguments::Arguments;
+use instance_records::entries::Entries;
+use instance_records::gift::Gift;
 use instance_records::readings::Readings;
 use instance_records::record::Record;
 use instance_records::short_list::ShortList;
@@ -34,15 +37,15 @@ fn record(
     reads: &[Note],
     height: u32,
 ) -> Record {
-    let arguments = ShortList::from_slice(alloc, &[argument]).expect(rt, "memory");
-    let touched = Vec::from_array(alloc, [(0, Val::Int(value))]).expect(rt, "memory");
+    let arguments = Arguments::from_slice(alloc, &[argument]).expect(rt, "memory");
+    let given = Gift::new(alloc, 0, Val::Int(value)).expect(rt, "memory");
     let reads = reads_of(rt, alloc, reads, Vec::new(alloc));
-    let entered = ShortList::from_slice(alloc, &[procedure]).expect(rt, "memory");
+    let entered = Entries::from_slice(alloc, &[procedure]).expect(rt, "memory");
     Record::new(
         procedure.0,
         arguments,
         value,
-        touched,
+        ShortList::One(given),
         reads,
         entered,
         height,

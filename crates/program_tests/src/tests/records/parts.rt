@@ -6,6 +6,9 @@ use super::making::{LINES, cell, committed, reads_of, second_line};
 use evaluation::note::Note;
 use evaluation::reading::{Reading, readings};
 use input_tables::Tables;
+use instance_records::arguments::Arguments;
+use instance_records::entries::Entries;
+use instance_records::gift::Gift;
 use instance_records::record::Record;
 use instance_records::short_list::ShortList;
 use linked_program::checked::Checked;
@@ -15,9 +18,9 @@ use std::alloc::Global;
 use std::mem::size_of;
 use std::process::Abort;
 
-fn adds(touched: &(usize, Val), reducer: usize, number: i64) -> bool {
-    match &touched.1 {
-        Val::Int(value) => touched.0 == reducer && *value == number,
+fn adds(gift: &Gift, to: u16, value: i64) -> bool {
+    match gift {
+        Gift::Number { reducer, number } => *reducer == to && *number == value,
         _ => false,
     }
 }
@@ -26,8 +29,8 @@ fn adds(touched: &(usize, Val), reducer: usize, number: i64) -> bool {
 fn is_second_line(record: &Record) -> bool {
     let numbers = record.procedure() == 0 && record.value() == 21 && record.height() == 1;
     let lists = record.arguments() == [2].as_slice() && record.entered() == [(0, 0)].as_slice();
-    let touched = record.contribution();
-    numbers && lists && touched.len() == 1 && adds(&touched[0], 0, 21)
+    let given = record.contribution();
+    numbers && lists && given.len() == 1 && adds(&given[0], 0, 21)
 }
 
 fn reads_second_line(alloc: Global, record: &Record) -> bool {
@@ -67,12 +70,12 @@ fn are_second_line(records: &[Record]) -> bool {
 /// Whether a record gives back the height and these procedures.
 fn gives_back(rt: &impl Abort, alloc: Global, entered: &[(usize, u64)]) -> bool {
     let reads = reads_of(rt, alloc, &[], Vec::new(alloc));
-    let listed = ShortList::from_slice(alloc, entered).expect(rt, "memory");
+    let listed = Entries::from_slice(alloc, entered).expect(rt, "memory");
     let made = Record::new(
         0,
-        ShortList::new(Vec::new(alloc)),
+        Arguments::Nothing,
         0,
-        Vec::new(alloc),
+        ShortList::new(Vec::new(alloc)),
         reads,
         listed,
         3,
@@ -151,11 +154,28 @@ fn readings_past_their_bytes_are_refused(rt: HostRuntime) {
     assert!(&rt; are_kept(rt.alloc(), &cells));
 }
 
-/// A record of one argument, two readings, two reducers and one procedure takes 224 bytes in the list and no memory of its own.
+/// What reducers were given that takes memory of its own, and what doesn't: a number, and a best pair whose second number takes four
+/// bytes.
+#[test]
+fn what_is_given_is_short(rt: HostRuntime) {
+    let pairs = [(7, 0), (7, 4_294_967_295), (7, 4_294_967_296), (7, -1)];
+    let short = [true, true, false, false];
+    assert!(&rt; Gift::short(65535, &Val::Int(-1)).is_some());
+    assert!(&rt; Gift::short(65536, &Val::Int(-1)).is_none());
+    for place in 0..4 {
+        assert!(&rt; Gift::short(1, &Val::Arg(Some(pairs[place]))).is_some() == short[place]);
+    }
+    assert!(&rt;
+        Gift::short(1, &Val::Arg(None)).is_none() && Gift::short(1, &Val::Pair(1, 2)).is_none()
+    );
+    assert!(&rt; size_of::<Gift>() == 16);
+}
+
+/// A record of one argument or two, two readings, two reducers and one procedure takes 152 bytes in the list and no memory of its own.
 /// Readings that others share lie in a node of 64: a count, an instance's own readings, and where the parts lie, if there are any.
 #[test]
 fn a_record_is_small(rt: HostRuntime) {
     let shared = 8 + size_of::<ShortList<Reading>>() + size_of::<Option<Box<u64>>>();
     assert!(&rt; size_of::<Reading>() == 16 && size_of::<Note>() > 24);
-    assert!(&rt; size_of::<Record>() == 224 && shared == 64);
+    assert!(&rt; size_of::<Record>() == 152 && shared == 64);
 }

@@ -4,6 +4,7 @@ use super::fitting::are_fit;
 use super::model::Model;
 use evaluation::note::Note;
 use input_tables::Tables;
+use instance_records::gift::Gift;
 use linked_program::checked::Checked;
 use meaning::tree::{Declaration, Program};
 use monoid_laws::{Kind, Val};
@@ -177,23 +178,31 @@ fn readings(rt: &impl Abort, alloc: Global, tables: &Tables, record: &Record) ->
 }
 
 /// The value of the reducer of that number: the one that is given, or else its identity.
-fn value_of(
-    rt: &impl Abort,
-    alloc: Global,
-    number: usize,
-    kind: Kind,
-    given: &[(usize, Val)],
-) -> Val {
-    for entry in given {
-        if entry.0 == number {
-            return copy_of(alloc, &entry.1).expect(rt, "memory");
+fn value_of(rt: &impl Abort, alloc: Global, number: usize, kind: Kind, given: &[Gift]) -> Val {
+    for gift in given {
+        if let Some(value) = value_given(rt, alloc, number, gift) {
+            return value;
         }
     }
     identity(alloc, kind)
 }
 
+/// A copy of what the reducer of that number was given, if it was that one.
+fn value_given(rt: &impl Abort, alloc: Global, to: usize, gift: &Gift) -> Option<Val> {
+    match gift {
+        Gift::Number { reducer, number } if usize::from(*reducer) == to => Some(Val::Int(*number)),
+        Gift::Best {
+            reducer,
+            second,
+            first,
+        } if usize::from(*reducer) == to => Some(Val::Arg(Some((*first, i64::from(*second))))),
+        Gift::Other(held) if held.0 == to => Some(copy_of(alloc, &held.1).expect(rt, "memory")),
+        _ => None,
+    }
+}
+
 /// A value of each reducer.
-fn all_values(rt: &impl Abort, alloc: Global, kinds: &[Kind], given: &[(usize, Val)]) -> Vec<Val> {
+fn all_values(rt: &impl Abort, alloc: Global, kinds: &[Kind], given: &[Gift]) -> Vec<Val> {
     let mut values = Vec::new(alloc);
     for number in 0..kinds.len() {
         let value = value_of(rt, alloc, number, kinds[number], given);
