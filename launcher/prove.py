@@ -6,7 +6,8 @@ they count, so a proof that nothing else runs beside gets one processor alone. H
 of crates with edits, which wait for them. And a proof keeps the processors that it began with, of which a large one gets one,
 since each is reckoned to take the memory that the first one does. Here each proof of the longest chain, and of those that are
 nearly as long, gets as many as memory holds, up to four: the further ones share what the first has loaded. A program comes
-before the tests that are ready by then, which would go first, being longer: its sessions and figures wait for it.
+before the tests that are ready by then, which would go first, being longer: its sessions and figures wait for it. Must-fail edits are
+tried together, over what the crate's proof has checked (launcher/together.py).
 Where rt's files are made otherwise than this knows of, this is `rt ci` and no more.
 """
 import importlib.machinery
@@ -16,6 +17,10 @@ import shutil
 import sys
 
 TOP = os.path.dirname(os.path.dirname(os.path.realpath(__file__)))
+sys.path.insert(0, f"{TOP}/launcher")
+import together  # noqa: E402  (found by the path above)
+from proved_modules import ProvedModules  # noqa: E402
+
 # What the first job of a proof takes of memory at most, and what each further one takes beside it, in bytes.
 FIRST, FURTHER = 3_500_000_000, 1_000_000_000
 # What part of the longest chain's work makes another one long.
@@ -95,7 +100,8 @@ def work_first(rt, in_lanes):
 
     def run(tasks):
         behind = without_work(tasks)
-        given = in_lanes(programs_first(chain_first(rt, {name: task for name, task in tasks.items() if name not in behind})))
+        left = {name: task for name, task in tasks.items() if name not in behind}
+        given = in_lanes(together.behind_proofs(programs_first(chain_first(rt, left))))
         for name in behind:
             *_, call = tasks[name]
             given[name] = call(given, 1)
@@ -104,11 +110,20 @@ def work_first(rt, in_lanes):
     return run
 
 
+def with_edits(top):
+    """The names of the crates below that folder that have must-fail edits."""
+    return [name for name in os.listdir(f"{top}/crates") if os.path.isdir(f"{top}/crates/{name}/must-fail")]
+
+
 def main():
-    rt = loaded(os.path.realpath(shutil.which("rt")))
+    path, here = os.path.realpath(shutil.which("rt")), os.path.realpath(".")
+    rt = loaded(path)
     if all(hasattr(rt, name) for name in ("in_lanes", "free", "processors")):
         rt.in_lanes = work_first(rt, rt.in_lanes)
-    return rt.main(["ci"])
+    with ProvedModules(here, os.path.dirname(os.path.dirname(path)), with_edits(here)) as modules:
+        if all(hasattr(rt, name) for name in together.NAMES):
+            together.begin(rt, modules)
+        return rt.main(["ci"])
 
 
 if __name__ == "__main__":

@@ -4,7 +4,7 @@
 usage: tools/check.py CRATE [FLAGS OF rattle check ..]   proves the crate: --only FN, --allow-holes, --test, --jobs N ..
        tools/check.py CRATE --lib                        proves it and keeps its library for the crates above
        tools/check.py CRATE --run [WORD]                 proves, builds and runs its tests, those whose names have WORD
-       tools/check.py CRATE --edits [EDIT ..]            tries its must-fail edits: each has to be refused
+       tools/check.py CRATE --edits [EDIT ..]            tries its must-fail edits, all together: each has to be refused
        tools/check.py CRATE --plant [FLAGS OF rt plant]  lists the wrong bodies that its contracts let through
        tools/check.py --type CRATE ..                    reads the crates and their tests from sources: types and borrows
        tools/check.py --beside FOLDER LOG                stays beside `rt ci` in that clone until its log ends, and keeps what it proves: its
@@ -41,9 +41,10 @@ def program(name):
     return module
 
 
-sys.path.insert(0, KIT)
+sys.path[:0] = [KIT, f"{TOP}/launcher"]
 sys.dont_write_bytecode = True
 import rtlib  # noqa: E402  (found by the path above)
+import together  # noqa: E402
 
 if not all(hasattr(rtlib, name) for name in ("Crate", "RATTLE", "KEPT", "guarded")):
     sys.exit("this kit's rt is made otherwise than this tool knows of")
@@ -157,17 +158,19 @@ def typed(crate):
 
 
 def edits(crate, names):
-    """Tries the crate's must-fail edits, each over what was proved of the crate."""
+    """Tries the crate's must-fail edits together, over what was proved of the crate, and those alone that aren't refused so."""
     rt = program("rt")
     found, wrong = rt.edits_of(crate)
     kept = f"{crate.folder}/{rtlib.KEPT[1]}"
     os.makedirs(kept, exist_ok=True)
+    tried = [edit for edit in found if not names or os.path.basename(edit)[: -len(".edit")] in names]
+    it = together.Together(rt, None)
+    it.refused = it.refused_together(crate, tried, ["--jobs", "1"], kept, True)
     failed = len(wrong)
-    for edit in found:
-        if not names or os.path.basename(edit)[: -len(".edit")] in names:
-            is_refused, said = rt.must_fail(crate, edit, ["--jobs", "1"], kept)
-            failed += not is_refused
-            print(said, flush=True)
+    for edit in tried:
+        kind, said = it.tried(crate, edit, ["--jobs", "1"], kept)
+        failed += kind not in (rt.REFUSED, rt.AT_LIMIT)
+        print(said, flush=True)
     return int(failed > 0)
 
 
