@@ -47,7 +47,7 @@ class ProvedModules:
         """Looks at the folders of checks until it is over."""
         while not self.over.wait(EACH):
             for saved in glob.glob(f"{tempfile.gettempdir()}/rattle-logic-built-locked-*"):
-                with contextlib.suppress(OSError, ValueError):
+                with contextlib.suppress(OSError, ValueError, IndexError):
                     crate = self.crate_of(int(saved.split("-")[-2]))
                     if crate in self.crates:
                         self.take(saved, f"{self.room}/{crate}")

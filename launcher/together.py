@@ -5,6 +5,7 @@ reading libraries. Here the check from nothing has edits in it already, each in 
 own body, and of the contracts of those that it calls, which no edit in a body changes: what is refused of it there is refused of it alone.
 Each edit that isn't, or that stands elsewhere than in a body, is tried by itself, as `rt ci` does it.
 """
+import contextlib
 import os
 import re
 import shutil
@@ -80,19 +81,25 @@ class Together:
 
     def begin_with(self, crate, flags, start=None):
         """What checks of the crate leave with edits in it, in place of one of the crate as it stands."""
-        edits = self.rt.edits_of(crate)[0]
         room = tempfile.mkdtemp(prefix=f"rt-edits-{os.getpid()}-")
         self.rt.SEEDS.append(room)
-        os.mkdir(f"{room}/seed")
-        given = self.modules.give(crate.name, f"{room}/seed")
-        found = self.refused_together(crate, edits, flags, f"{room}/seed", given)
-        if not found:
-            shutil.rmtree(room, ignore_errors=True)
-            return self.seeded(crate, flags, start)
+        # (a disk may be full: then each edit is tried alone)
+        with contextlib.suppress(OSError, shutil.Error):
+            if self.begins(crate, flags, f"{room}/seed"):
+                return room
+        shutil.rmtree(room, ignore_errors=True)
+        return self.seeded(crate, flags, start)
+
+    def begins(self, crate, flags, seed):
+        """Whether checks of the crate refuse edits that are in it together; what is left of them is put into a new folder."""
+        edits = self.rt.edits_of(crate)[0]
+        os.mkdir(seed)
+        given = self.modules.give(crate.name, seed)
+        found = self.refused_together(crate, edits, flags, seed, given)
         self.refused |= found
         if found == set(edits):
-            self.done.add(f"{room}/seed")
-        return room
+            self.done.add(seed)
+        return bool(found)
 
     def refused_together(self, crate, edits, flags, seed, is_whole):
         """Which of the edits are refused by checks that each have one edit of each function in them, as long as each refuses some: a caller's
@@ -139,7 +146,7 @@ class Together:
             return self.rt.REFUSED, f"must-fail {crate.name}/{os.path.basename(edit)}: refused, as it must be, by a check with other edits"
         if kept:
             return self.must_fail(crate, edit, flags, kept)
-        with tempfile.TemporaryDirectory(prefix=f"rt-edits-{os.getpid()}-") as room:
+        with contextlib.suppress(OSError, shutil.Error), tempfile.TemporaryDirectory(prefix=f"rt-edits-{os.getpid()}-") as room:
             if self.modules.give(crate.name, room):
                 found = self.must_fail(crate, edit, flags, room)
                 if found[0] in self.rt.SETTLED:

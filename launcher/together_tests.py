@@ -189,6 +189,14 @@ class Edits(unittest.TestCase):
             self.assertEqual((room, kit.asked[-1]), ("seed", ("seeded",)))
             self.assertEqual(kit.must_fail(self.crate, "less", [], "over")[0], "alone")
 
+    def test_each_is_tried_alone_where_the_disk_is_full(self):
+        kit = Kit(["less", "larger"], SAID)
+        kit.give = lambda _crate, _to: os.mkdir("/proc/full")
+        together.begin(kit, kit)
+        self.assertEqual(kit.seeded(self.crate, [], None), "seed")
+        self.assertEqual(kit.must_fail(self.crate, "less", [])[0], "alone")
+        self.assertEqual(kit.asked, [("seeded",), ("tried", "less")])
+
     def test_the_check_that_edits_begin_with_waits_for_the_proof(self):
         tasks = {("toy", "proof"): (["low"], 9), ("toy", "seed"): (["low"], 0), ("toy", "edits", 0): ([("toy", "seed")], 9)}
         found = together.behind_proofs(tasks)
