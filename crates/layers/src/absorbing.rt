@@ -3,7 +3,7 @@ ghost use Rattle.std.specs.Prelude.{◌≡◌, ◌<◌, ◌++◌, List, IfOk, On
 ghost use Rattle.monoid_laws.specs.Worth.{Worth};
 ghost use Rattle.monoid_laws.specs.declared.Kind.{Kind};
 ghost use Rattle.monoid_laws.specs.declared.Val.TheVariants.{Int, Arg};
-ghost use Rattle.monoid_laws.specs.Kinds.{IsMonoid, IsWorth, meaning, operate};
+ghost use Rattle.monoid_laws.specs.Kinds.{IsMonoid, IsWorth, identities, meaning, operate};
 ghost use Rattle.hypermaps.specs.Layer.{IsAt};
 ghost use Rattle.evaluation.specs.declared.note.Note.{Note};
 ghost use Rattle.record_theory.specs.Record.{touched};
@@ -59,6 +59,7 @@ impl<V: View> Layer<V> {
         requires kept { kept.now ≡ kept_reads right.old }
         ensures covered { OnOk result (self.new ≡ covered self.old right.old) }
         ensures right_kinds { right.new.kinds ≡ right.old.kinds }
+        ensures emptied { OnOk result (right.new.worths ≡ identities right.old.kinds) }
         ensures left_kept { OnErr result (IsSameButWorths self.old self.new) }
         ensures right_kept { OnErr result (IsSameButWorths right.old right.new) }
         ensures product { OnErr result (HasSameProduct self.old right.old self.new right.new) }

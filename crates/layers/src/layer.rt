@@ -1,13 +1,14 @@
 //! A layer of a strand: the views of a kit, and what was read and entered since they were opened.
-ghost use Rattle.std.specs.Prelude.{◌≡◌, ◌∷◌, [], ◌<◌, IfOk, IfErr, Some, true, false, length, map, replicate, take, slice_get};
+ghost use Rattle.std.specs.Prelude.{◌≡◌, ◌∷◌, [], ◌<◌, IfOk, IfErr, OnOk, Some, true, false, length, map, replicate, take, slice_get};
 ghost use Rattle.monoid_laws.specs.declared.Kind.{Kind};
-ghost use Rattle.monoid_laws.specs.Kinds.{AreWorths, meaning};
+ghost use Rattle.monoid_laws.specs.Kinds.{AreWorths, identities, meaning};
 ghost use Rattle.linked_program.specs.CodeView.{expression as plain};
 ghost use Rattle.meaning.specs.Statements.{number_of};
 ghost use Rattle.evaluation.specs.Values.{value_at, values_at, entry_at, bounds_at};
 ghost use Rattle.positions.specs.Layers.{blank, entering};
 ghost use Rattle.layers.specs.Ends.{HasNoted, without_unkept};
 
+use crate::lowering::put_all_down;
 use crate::spares::SpareLists;
 use evaluation::entry::entry_slots;
 use evaluation::notes::Notes;
@@ -126,6 +127,23 @@ impl<V: View> Layer<V> {
         let (kit, used) = hypermap.close_in();
         spares.keep_layer(notes, entered, used);
         kit
+    }
+
+    /// The layer as if it were opened anew, where its views are at the identities: it has noted nothing, and keeps readings or not, for a
+    /// program of so many procedures. Want of memory is the only error.
+    #[inline(always)]
+    pub fn renew(&mut self, keeps: bool, procedures: usize) -> Result<(), AllocError>
+        requires emptied { self.old.worths ≡ identities self.old.kinds }
+        ensures open { OnOk result (self.new ≡ blank keeps self.old.kinds procedures) }
+        ensures kinds { self.new.kinds ≡ self.old.kinds }
+    {
+        self.keeps = keeps;
+        self.deepest = 0;
+        self.notes.clear();
+        if !self.shared.is_empty() {
+            self.shared.clear();
+        }
+        put_all_down(&mut self.entered, procedures)
     }
 
     /// What the type keeps: each reducer's value is of its kind.

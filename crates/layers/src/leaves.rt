@@ -1,7 +1,7 @@
 // Layers of most leaves: two reducers were used, two cells were read, and one procedure was entered. Their record is made in one go, each part
 // where it will lie, and no part goes through another result.
 ghost use Rattle.std.specs.Prelude.{true, ◌≡◌, ◌∷◌, [], ◌&&◌, ◌<◌, IfSome, OnErr, OnOk, All, length, map, slice_get, vec_len, vec_capacity};
-ghost use Rattle.monoid_laws.specs.Kinds.{IsMonoid, meaning};
+ghost use Rattle.monoid_laws.specs.Kinds.{IsMonoid, identities, meaning};
 ghost use Rattle.hypermaps.specs.Layer.{IsAt};
 ghost use Rattle.evaluation.specs.Short.{note_of};
 ghost use Rattle.instance_records.specs.Gifts.{given_by};
@@ -77,6 +77,7 @@ impl<V: View> Layer<V> {
         ensures covered { OnOk result (self.new ≡ covered self.old right.old) }
         ensures right_kinds { right.new.kinds ≡ right.old.kinds }
         ensures right_notes { OnOk result (right.new.notes ≡ right.old.notes) }
+        ensures emptied { OnOk result (right.new.worths ≡ identities right.old.kinds) }
         ensures left_kept { OnErr result (IsSameButWorths self.old self.new) }
         ensures right_kept { OnErr result (IsSameButWorths right.old right.new) }
         ensures product { OnErr result (HasSameProduct self.old right.old self.new right.new) }

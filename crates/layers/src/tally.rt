@@ -1,6 +1,6 @@
 //! What a strand has counted and recorded of memo instances.
 ghost use Rattle.std.specs.Prelude.{◌≡◌, ◌∷◌, [], suc, ◌+◌, IfOk, OnErr, OnOk, All, length, map};
-ghost use Rattle.monoid_laws.specs.Kinds.{IsMonoid};
+ghost use Rattle.monoid_laws.specs.Kinds.{IsMonoid, identities};
 ghost use Rattle.record_theory.specs.Record.{touched};
 ghost use Rattle.record_theory.specs.Named.{AreValuesFrom, HaveValues};
 ghost use Rattle.instance_records.specs.Gifts.{given_by};
@@ -198,6 +198,7 @@ impl Tally {
         ensures closed { OnOk result
             (self.new ≡ closing program.now.revisions top.old value self.old) }
         ensures covered { OnOk result (below.new ≡ covered below.old top.old) }
+        ensures emptied { OnOk result (top.new.worths ≡ identities top.old.kinds) }
         ensures top_kinds { top.new.kinds ≡ top.old.kinds }
         ensures below_kinds { below.new.kinds ≡ below.old.kinds }
         ensures values { HaveValues top.old.kinds self.old.made
@@ -231,6 +232,7 @@ impl Tally {
         ensures closed { OnOk result
             (self.new ≡ closing program.now.revisions top.old value self.old) }
         ensures covered { OnOk result (below.new ≡ covered below.old top.old) }
+        ensures emptied { OnOk result (top.new.worths ≡ identities top.old.kinds) }
         ensures top_kinds { top.new.kinds ≡ top.old.kinds }
         ensures below_kinds { below.new.kinds ≡ below.old.kinds }
         ensures values { HaveValues top.old.kinds self.old.made
@@ -274,6 +276,7 @@ impl Tally {
         ensures closed { OnOk result
             (self.new ≡ closing program.now.revisions top.old value self.old) }
         ensures covered { OnOk result (below.new ≡ covered below.old top.old) }
+        ensures emptied { OnOk result (top.new.worths ≡ identities top.old.kinds) }
         ensures top_kinds { top.new.kinds ≡ top.old.kinds }
         ensures below_kinds { below.new.kinds ≡ below.old.kinds }
         ensures values { HaveValues top.old.kinds self.old.made
@@ -326,6 +329,7 @@ impl Tally {
         ensures closed { OnOk result
             (self.new ≡ closing _program.now.revisions top.old leaf.value self.old) }
         ensures covered { OnOk result (below.new ≡ covered below.old top.old) }
+        ensures emptied { OnOk result (top.new.worths ≡ identities top.old.kinds) }
         ensures top_kinds { top.new.kinds ≡ top.old.kinds }
         ensures below_kinds { below.new.kinds ≡ below.old.kinds }
         ensures values { HaveValues top.old.kinds self.old.made

@@ -37,9 +37,9 @@ use Rattle.answered_loops.proofs.Found.{found_arguments}
 use Rattle.answered_loops.proofs.Sums.{absorbing_reads, absorbing_sum}
 use Rattle.answered_loops.proofs.Turns.{turn_answered, with_answer}
 use Rattle.running_ahead.specs.AnsweredChains.{AnswerFrom, AreTaken, ArePassed, nothing, recorded, answered}
-use Rattle.running_ahead.specs.Leaves.{PlainLeaf, Gathered, gathered, IsRecorded, AreRecorded, more, arguments_then}
+use Rattle.running_ahead.specs.Leaves.{PlainLeaf, Gathered, gathered, IsRecorded, AreRecorded, more, arguments_then, gathered_by}
 use Rattle.running_ahead.specs.Stepped.{IsStepped}
-use Rattle.running_ahead.proofs.LeafChains.{gathered_by, leaf_of, one_more}
+use Rattle.running_ahead.proofs.LeafChains.{leaf_of, one_more}
 use Rattle.running_ahead.proofs.Stepping.{steps_way}
 
 -- ---- numbers

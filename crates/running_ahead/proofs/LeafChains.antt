@@ -14,11 +14,8 @@ use Rattle.positions.specs.Tallies.{PlainTally}
 use Rattle.positions.specs.Advance.{rest_of}
 use Rattle.own_statements.specs.Fills.{IsCounted}
 use Rattle.running_ahead.specs.Stepped.{IsStepped}
-use Rattle.running_ahead.specs.Leaves.{PlainLeaf, IsLeaf, Gathered, gathered, IsRecorded, AreRecorded, more, arguments_then}
+use Rattle.running_ahead.specs.Leaves.{PlainLeaf, IsLeaf, Gathered, gathered, gathered_by, IsRecorded, AreRecorded, more, arguments_then}
 use Rattle.running_ahead.proofs.LeafSteps.{leaf_steps}
-
-abbrev pub gathered_by : PlainLayer → PlainTally → List ℤ → Gathered
-gathered_by l t xs = record { layer = l; tally = t; arguments = xs }
 
 module _ (setting : Setting) (l : Loop) (j : PlainLoop) where
   -- the iteration of that number, where the loop's instance has so many levels below it

@@ -14,11 +14,10 @@ use Rattle.positions.specs.Tallies.{PlainOpened, PlainTally, is_own}
 use Rattle.activations.specs.Turned.{behind, turned_by}
 use Rattle.running_ahead.specs.Chains.{IsClear}
 use Rattle.running_ahead.specs.Stepped.{IsStepped, here}
-use Rattle.running_ahead.specs.Leaves.{Gathered, gathered_of, gathering, gathered, IsAmid, IsRecorded, AreRecorded, none, more, arguments_then, IsRecordedAhead}
+use Rattle.running_ahead.specs.Leaves.{Gathered, gathered_of, gathering, gathered, IsAmid, IsRecorded, AreRecorded, none, more, arguments_then, IsRecordedAhead, gathered_by}
 use Rattle.running_ahead.proofs.Turned.{next_turn, turns_there, turns_left, turns_procedure, turns_slots, more_behind}
 use Rattle.running_ahead.proofs.Stepping.{steps_join}
 use Rattle.running_ahead.proofs.ChainedHalves.{clear_home}
-use Rattle.running_ahead.proofs.LeafChains.{gathered_by}
 
 -- so many first ones, and then the others
 pub record AreRecordedAt (setting : Setting) (l : Loop) (p : ℕ) (slots : List Slot) (left : ℕ) (i : ℕ) (x : Gathered) (a b : ℕ) (y : Gathered) : Type 0 where

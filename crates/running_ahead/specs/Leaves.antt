@@ -51,8 +51,11 @@ pub record Gathered : Type 0 where
   pub tally : PlainTally
   pub arguments : List ℤ
 
+abbrev pub gathered_by : PlainLayer → PlainTally → List ℤ → Gathered
+gathered_by l t xs = record { layer = l; tally = t; arguments = xs }
+
 abbrev pub gathered_of : PlainStrand → List ℤ → Gathered
-gathered_of s xs = record { layer = s.layer; tally = s.tally; arguments = xs }
+gathered_of s xs = gathered_by s.layer s.tally xs
 
 -- a strand that has it, and one with that topmost instance, at a phase
 abbrev pub gathering : Gathered → PlainStrand → PlainStrand

@@ -1,6 +1,6 @@
 //! One iteration of a loop over a memo procedure, done in a layer of its own that becomes a record at once.
-ghost use Rattle.std.specs.Prelude.{◌≡◌, ◌∷◌, ◌-◌, [], true, false, Some, None, All, IfOk, IfSome, OnErr, OnOk, length};
-ghost use Rattle.monoid_laws.specs.Kinds.{IsMonoid};
+ghost use Rattle.std.specs.Prelude.{◌≡◌, ◌∷◌, ◌-◌, [], true, false, Some, None, All, IfErr, IfOk, IfSome, OnErr, OnOk, length};
+ghost use Rattle.monoid_laws.specs.Kinds.{IsMonoid, identities};
 ghost use Rattle.meaning.specs.Elision.{depth_limit};
 ghost use Rattle.record_theory.specs.Named.{HaveValues};
 ghost use Rattle.evaluation.specs.Slots.{slots_for};
@@ -18,6 +18,7 @@ use activations::activation::Activation;
 use activations::setting::Setting;
 use layers::layer::{DEEPEST, Layer};
 use layers::recording::Opened;
+use layers::spares::SpareLists;
 use layers::tally::Tally;
 use linked_program::checked::Checked;
 use linked_program::code::Instruction;
@@ -117,6 +118,7 @@ fn close<V: View>(
     ensures same_layer { IfOk result (λ done. done ≡ false → layer.new ≡ layer.old) }
     ensures opened { OnErr result (tally.new ≡ opening (opened_by (plain_leaf leaf.entry)) tally.old) }
     ensures kinds { layer.new.kinds ≡ layer.old.kinds }
+    ensures emptied { IfOk result (λ done. done ≡ true → own.new.worths ≡ identities own.new.kinds) }
     ensures own_kinds { own.new.kinds ≡ own.old.kinds }
     ensures values { HaveValues own.old.kinds tally.old.made → HaveValues own.old.kinds tally.new.made }
 {
@@ -130,6 +132,63 @@ fn close<V: View>(
     match tally.close(alloc, own, layer, value, program) {
         Ok(()) => Ok(true),
         Err(error) => Err(error),
+    }
+}
+
+/// An iteration that no record answers, in that layer, in which nothing was noted yet. Whether it was done, and then its layer is at the
+/// identities again; where it wasn't, nothing has changed but that layer. Where memory is refused when it becomes a record, the loop's layer
+/// has other values.
+#[inline(always)]
+pub(crate) fn record_in<V: View>(
+    own: &mut Layer<V>,
+    layer: &mut Layer<V>,
+    tally: &mut Tally,
+    setting: Setting<'_>,
+    leaf: Leaf<'_>,
+    child: &mut Activation,
+    numbers: &mut Vec<i64>,
+) -> Result<bool, AllocError>
+    requires body { IsBody setting.program.now.codes leaf.callee leaf.body.now }
+    requires unknown { record_for (lent setting) (depth_limit - leaf.left) leaf.callee (leaf.number ∷ []) ≡ None }
+    requires blank { own.old ≡ blank true setting.program.now.kinds (length setting.program.now.codes) }
+    requires kinds { layer.old.kinds ≡ setting.program.now.kinds }
+    requires monoids { All IsMonoid setting.program.now.kinds }
+    ensures leaf { IfOk result (λ done. done ≡ true → IsLeaf (lent setting.entry) (plain_leaf leaf.entry)
+        layer.old tally.old layer.new tally.new) }
+    ensures emptied { IfOk result (λ done. done ≡ true → own.new.worths ≡ identities own.new.kinds) }
+    ensures same_layer { IfOk result (λ done. done ≡ false → layer.new ≡ layer.old) }
+    ensures same_tally { IfOk result (λ done. done ≡ false → tally.new ≡ tally.old) }
+    ensures opened { OnErr result (tally.new ≡ opening (opened_by (plain_leaf leaf.entry)) tally.old) }
+    ensures kinds { layer.new.kinds ≡ layer.old.kinds }
+    ensures own_kinds { own.new.kinds ≡ setting.entry.program.now.kinds }
+    ensures values { HaveValues setting.entry.program.now.kinds tally.old.made
+        → HaveValues setting.entry.program.now.kinds tally.new.made }
+{
+    let alloc = *numbers.allocator();
+    let Some(value) = value_of(own, setting, leaf, child, numbers) else {
+        return Ok(false);
+    };
+    close(own, layer, tally, alloc, setting.program, leaf, value)
+}
+
+/// A layer of that kit in spare lists, in which nothing was noted yet. Where memory is refused, the kit is handed back.
+#[inline(always)]
+pub(crate) fn own_layer<V: View>(
+    lists: &mut SpareLists,
+    alloc: Global,
+    program: &Checked,
+    kit: Kit<V>,
+) -> Result<Layer<V>, Kit<V>>
+    requires kit { kit ≡ program.now.kinds }
+    ensures blank { IfOk result (λ own. own ≡ blank true program.now.kinds (length program.now.codes)) }
+    ensures handed_back { IfErr result (λ k. k ≡ program.now.kinds) }
+{
+    let count = program.codes().len();
+    match lists.take(alloc, count) {
+        Ok((notes, flags, used)) => Ok(Layer::in_lists(
+            alloc, kit, true, count, notes, flags, used,
+        )),
+        Err(_) => Err(kit),
     }
 }
 
@@ -162,30 +221,20 @@ pub(crate) fn record_leaf<V: View>(
     if machine.lower.reserve(1).is_err() {
         return Ok((false, kit));
     }
-    let count = setting.program.codes().len();
-    let (notes, flags, used) = match machine.lists.take(alloc, count) {
-        Ok(lists) => lists,
-        Err(_) => return Ok((false, kit)),
+    let mut own = match own_layer(&mut machine.lists, alloc, setting.program, kit) {
+        Ok(own) => own,
+        Err(kit) => return Ok((false, kit)),
     };
-    let mut own = Layer::in_lists(alloc, kit, true, count, notes, flags, used);
-    let Some(value) = value_of(
+    let recorded = record_in(
         &mut own,
+        &mut machine.layer,
+        &mut machine.tally,
         setting,
         leaf,
         &mut machine.spares.child,
         &mut machine.numbers,
-    ) else {
-        return Ok((false, own.close_in(&mut machine.lists)));
-    };
-    match close(
-        &mut own,
-        &mut machine.layer,
-        &mut machine.tally,
-        alloc,
-        setting.program,
-        leaf,
-        value,
-    ) {
+    );
+    match recorded {
         Ok(done) => Ok((done, own.close_in(&mut machine.lists))),
         Err(error) => {
             machine

@@ -1,21 +1,26 @@
 //! Iterations one after another, each of which is recorded at once.
-ghost use Rattle.std.specs.Prelude.{◌≡◌, ◌≤◌, ◌==◌, [], true, false, All, IfOk, OnErr, OnOk, map};
+ghost use Rattle.std.specs.Prelude.{◌≡◌, ◌≤◌, ◌==◌, [], true, false, suc, ℤ, List, All, IfOk, OnErr, OnOk, length, map};
 ghost use Rattle.monoid_laws.specs.Kinds.{IsMonoid};
 ghost use Rattle.linked_program.specs.CodeView.{expression as plain, memo_of};
 ghost use Rattle.record_theory.specs.Named.{HaveValues};
 ghost use Rattle.positions.specs.Activations.{ShareFits};
 ghost use Rattle.positions.specs.Code.{loop_at};
+ghost use Rattle.positions.specs.Layers.{blank};
 ghost use Rattle.activations.specs.Given.{lent, loop_of};
 ghost use Rattle.own_statements.specs.Fills.{IsCounted};
-ghost use Rattle.running_ahead.specs.Leaves.{AreRecorded, IsRefusedLeaf, arguments_then, gathered_of};
+ghost use Rattle.running_ahead.specs.Leaves.{AreRecorded, IsRefusedLeaf, arguments_then, gathered_by, gathered_of};
 
-use crate::leaf::{Leaf, is_answered, record_leaf};
+use crate::leaf::{Leaf, is_answered, own_layer, record_in};
+use activations::activation::Activation;
 use activations::code::{LoopCode, instructions};
 use activations::setting::Setting;
 use activations::shares::{behind, number_of};
+use layers::layer::Layer;
+use layers::tally::Tally;
 use positions::work::{Loop, Share};
 use small_steps::machine::Machine;
 use std::alloc::{AllocError, Global};
+use std::mem;
 use view_pool::{Kit, View};
 
 /// So many of the first iterations of a share of a loop's.
@@ -60,11 +65,74 @@ pub(crate) fn record_chain<V: View>(
     ensures values { HaveValues setting.entry.program.now.kinds machine.old.tally.made
         → HaveValues setting.entry.program.now.kinds machine.new.tally.made }
 {
+    if machine.lower.reserve(1).is_err() {
+        return Ok((0, kit));
+    }
+    let mut own = match own_layer(&mut machine.lists, alloc, setting.program, kit) {
+        Ok(own) => own,
+        Err(kit) => return Ok((0, kit)),
+    };
+    let recorded = record_each(
+        &mut own,
+        &mut machine.layer,
+        &mut machine.tally,
+        &machine.top,
+        setting,
+        code,
+        stretch,
+        &mut machine.spares.child,
+        &mut machine.numbers,
+    );
+    match recorded {
+        Ok(done) => Ok((done, own.close_in(&mut machine.lists))),
+        Err(error) => {
+            machine
+                .lower
+                .push_reserved(mem::replace(&mut machine.layer, own));
+            Err(error)
+        }
+    }
+}
+
+/// The same in that layer, in which nothing was noted yet, for the loop's instance on top: how many were recorded. Where memory is refused
+/// when it becomes a record, the loop's layer has other values.
+#[inline(always)]
+fn record_each<V: View>(
+    own: &mut Layer<V>,
+    layer: &mut Layer<V>,
+    tally: &mut Tally,
+    top: &Activation,
+    setting: Setting<'_>,
+    code: LoopCode<'_>,
+    stretch: Stretch,
+    child: &mut Activation,
+    numbers: &mut Vec<i64>,
+) -> Result<u32, AllocError>
+    requires fits { ShareFits stretch.site stretch.share }
+    requires some { stretch.most ≤ stretch.share.count }
+    requires found { loop_of code ≡ loop_at setting.program.now.codes top.now.procedure stretch.site }
+    requires memo { memo_of setting.program.now.codes code.callee ≡ true }
+    requires deep { (top.now.left == 0) ≡ false }
+    requires counted { IsCounted top.now.slots code.variable (map plain code.arguments.now) }
+    requires blank { own.old ≡ blank true setting.program.now.kinds (length setting.program.now.codes) }
+    requires kinds { layer.old.kinds ≡ setting.program.now.kinds }
+    requires monoids { All IsMonoid setting.program.now.kinds }
+    ensures records { IfOk result (λ done. (xs : List ℤ) → AreRecorded (lent setting.entry) stretch.site
+        top.now.procedure top.now.slots top.now.left stretch.share.first (gathered_by layer.old tally.old xs) done
+        (gathered_by layer.new tally.new (arguments_then done stretch.site stretch.share xs))) }
+    ensures opened { OnOk result (tally.new.opened ≡ tally.old.opened) }
+    ensures some { IfOk result (λ done. done ≤ stretch.most) }
+    ensures left_open { OnErr result (length tally.new.opened ≡ suc (length tally.old.opened)) }
+    ensures kinds { layer.new.kinds ≡ layer.old.kinds }
+    ensures own_kinds { own.new.kinds ≡ setting.entry.program.now.kinds }
+    ensures values { HaveValues setting.entry.program.now.kinds tally.old.made
+        → HaveValues setting.entry.program.now.kinds tally.new.made }
+{
     let callee = code.callee;
     let size = setting.program.slots(callee);
-    let left = machine.top.left() - 1;
+    let left = top.left() - 1;
     let body = instructions(setting.program, callee, 0, 0);
-    let mut kit = kit;
+    let count = setting.program.codes().len();
     for done in 0..stretch.most {
         let leaf = Leaf {
             callee,
@@ -74,13 +142,17 @@ pub(crate) fn record_chain<V: View>(
             body,
         };
         if is_answered(setting, leaf) {
-            return Ok((done, kit));
+            return Ok(done);
         }
-        match record_leaf(machine, alloc, setting, leaf, kit) {
-            Ok((true, back)) => kit = back,
-            Ok((false, back)) => return Ok((done, back)),
+        match record_in(own, layer, tally, setting, leaf, child, numbers) {
+            Ok(true) => {
+                if own.renew(true, count).is_err() {
+                    return Ok(done + 1);
+                }
+            }
+            Ok(false) => return Ok(done),
             Err(error) => return Err(error),
         }
     }
-    Ok((stretch.most, kit))
+    Ok(stretch.most)
 }
