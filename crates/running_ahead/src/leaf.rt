@@ -168,7 +168,10 @@ pub(crate) fn record_in<V: View>(
     let Some(value) = value_of(own, setting, leaf, child, numbers) else {
         return Ok(false);
     };
-    close(own, layer, tally, alloc, setting.program, leaf, value)
+    match close(own, layer, tally, alloc, setting.program, leaf, value) {
+        Ok(done) => Ok(done),
+        Err(error) => Err(error),
+    }
 }
 
 /// A layer of that kit in spare lists, in which nothing was noted yet. Where memory is refused, the kit is handed back.

@@ -1,10 +1,31 @@
-use Rattle.std.proofs.Common.{◌≡◌, ◌++◌, ◌∷◌, [], length, suc, reverse, ap, ◌∙◌, List, subst, sym}
+use Rattle.std.proofs.Common.{◌≡◌, ◌++◌, ◌∷◌, [], List, length, suc, reverse, ap, ◌∙◌, subst, sym}
 use Rattle.std.proofs.lemmas.List.{reverse-append}
 use Rattle.record_theory.specs.Named.{HaveValues}
 use Rattle.positions.specs.Layers.{PlainLayer}
 use Rattle.positions.specs.Strands.{PlainStrand}
-use Rattle.positions.specs.Tallies.{PlainTally}
+use Rattle.activations.specs.Given.{lent}
+use Rattle.running_ahead.specs.Leaves.{AreRecorded, none, gathered_of}
 use Rattle.running_ahead.proofs.leaf_chain.record_chain.Goals as goal
+
+pub returns-then-is_err-clause-records : goal.returns-then-is_err-clause-records
+returns-then-is_err-clause-records g c =
+    let m : PlainStrand = c.args.machine.now in
+    let x = c.args.stretch in
+    subst (λ (s : PlainStrand). AreRecorded (lent c.args.setting) x.site m.top.procedure m.top.slots m.top.left x.share.first (gathered_of m m.arguments) 0 (gathered_of s m.arguments)) (sym c.machine.view_is) none
+
+pub returns-in-Err-clause-records : goal.returns-in-Err-clause-records
+returns-in-Err-clause-records g c =
+    let m : PlainStrand = c.args.machine.now in
+    let x = c.args.stretch in
+    subst (λ (s : PlainStrand). AreRecorded (lent c.args.setting) x.site m.top.procedure m.top.slots m.top.left x.share.first (gathered_of m m.arguments) 0 (gathered_of s m.arguments)) (sym c.machine.view_is) none
+
+pub returns-in-Ok-recorded-clause-values : goal.returns-in-Ok-recorded-clause-values
+returns-in-Ok-recorded-clause-values g c h =
+    c.record_each-recorded.ensures.values (subst (λ (s : PlainStrand). HaveValues c.args.setting.program.now.kinds s.tally.made) (sym c.machine.view_is) h)
+
+pub returns-in-Err-recorded-clause-values : goal.returns-in-Err-recorded-clause-values
+returns-in-Err-recorded-clause-values g c h =
+    c.record_each-recorded.ensures.values (subst (λ (s : PlainStrand). HaveValues c.args.setting.program.now.kinds s.tally.made) (sym c.machine.view_is) h)
 
 pub returns-in-Err-recorded-clause-refused : goal.returns-in-Err-recorded-clause-refused
 returns-in-Err-recorded-clause-refused g c =
@@ -13,8 +34,8 @@ returns-in-Err-recorded-clause-refused g c =
       below = r;
       lower = ap (λ (ls : List PlainLayer). reverse ls) (c.push_reserved.ensures.items ∙ ap (λ (ls : List PlainLayer). ls ++ r ∷ []) c.reserve.ensures.items)
           ∙ reverse-append c.machine.inside.lower.items (r ∷ []) ∙ ap (λ (s : PlainStrand). r ∷ s.lower) c.machine.view_is;
-      below_kinds = ap (λ (l : PlainLayer). l.kinds) c.replace.ensures.value ∙ c.recorded.ensures.kinds ∙ ap (λ (s : PlainStrand). s.layer.kinds) c.machine.view_is;
-      kinds = ap (λ (l : PlainLayer). l.kinds) c.replace.ensures.after ∙ c.recorded.ensures.own_kinds ∙ sym c.requires.kinds;
+      below_kinds = ap (λ (l : PlainLayer). l.kinds) c.replace.ensures.value ∙ c.record_each-recorded.ensures.kinds ∙ ap (λ (s : PlainStrand). s.layer.kinds) c.machine.view_is;
+      kinds = ap (λ (l : PlainLayer). l.kinds) c.replace.ensures.after ∙ c.record_each-recorded.ensures.own_kinds ∙ sym c.requires.kinds;
       opened = c.in-Err-recorded.ensures.left_open ∙ ap (λ (s : PlainStrand). suc (length s.tally.opened)) c.machine.view_is;
       phase = ap (λ (s : PlainStrand). s.phase) c.machine.view_is;
     }
