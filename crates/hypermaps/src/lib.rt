@@ -243,6 +243,25 @@ fn absorb_at<V: View>(
     view.absorb(value)
 }
 
+/// Combines a lent value on the right of what reducer `r` is worth, where that is done at once; whether it was.
+#[inline(always)]
+fn absorb_at_once<V: View>(views: &mut Vec<V>, used: &mut Vec<usize>, r: usize, value: &Val) -> bool
+    requires reducer_is { r < length views.old.items }
+    requires layer { IsLayer (map V.kind_of views.old.items) (map V.worth_of views.old.items) used.old.items }
+    requires of_kind { (c : Kind) → IsAt (map V.kind_of views.old.items) r c → IsWorth c (meaning value.now) }
+    ensures kinds { map V.kind_of views.new.items ≡ map V.kind_of views.old.items }
+    ensures layer { IsLayer (map V.kind_of views.new.items) (map V.worth_of views.new.items) used.new.items }
+    ensures absorbed { (c : Kind) (x : Worth) → IsAt (map V.kind_of views.old.items) r c → IsAt (map V.worth_of views.old.items) r x
+        → result ≡ true → map V.worth_of views.new.items ≡ slice_set (map V.worth_of views.old.items) r (operate c x (meaning value.now)) }
+    ensures same { result ≡ false → map V.worth_of views.new.items ≡ map V.worth_of views.old.items }
+{
+    if note_use(used, r).is_err() {
+        return false;
+    }
+    let view = &mut views[r];
+    view.absorb_at_once(value)
+}
+
 /// The kit of these views, which are there already.
 fn kit_at_identity<V: View>(views: Vec<V>) -> Kit<V>
     requires at_identity { All (λ v. V.worth_of v ≡ identity_of (V.kind_of v)) views.items }
@@ -380,6 +399,21 @@ impl<V: View> Hypermap<V> {
             Ok(()) => Ok(()),
             Err(_) => Err(AllocError),
         }
+    }
+
+    /// Combines a lent value on the right of one reducer's value, where that takes no memory and is done at once; whether it was, else all
+    /// values stay.
+    #[inline(always)]
+    pub fn absorb_at_once(&mut self, reducer: usize, value: &Val) -> bool
+        requires reducer_is { reducer < length self.old.kinds }
+        requires of_kind { (c : Kind) → IsAt self.old.kinds reducer c → IsWorth c (meaning value.now) }
+        ensures kinds { self.new.kinds ≡ self.old.kinds }
+        ensures absorbed { (c : Kind) (x : Worth) → IsAt self.old.kinds reducer c
+            → IsAt self.old.worths reducer x → result ≡ true
+            → self.new.worths ≡ slice_set self.old.worths reducer (operate c x (meaning value.now)) }
+        ensures same { result ≡ false → self.new.worths ≡ self.old.worths }
+    {
+        absorb_at_once(&mut self.views, &mut self.used, reducer, value)
     }
 
     /// A copy of the value of a reducer that was used; none where it wasn't, and stands at its identity. Want of memory is the

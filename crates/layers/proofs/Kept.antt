@@ -41,7 +41,7 @@ pub noted_without_unkept : {A B : Type 0} (view : B → A) (o : NumberedOut A) (
 noted_without_unkept view o l m new ns n r h e f g =
     subst (λ k. HasNoted view o l k r) (sym (g ∙ ap (without_unkept n) e ∙ ap (λ k. without_unkept k (record l { notes = ns })) f)) (ends_without_unkept view o l ns r h)
 
-noted_nothing : (b : Bool) (xs ys : List Note) → b ≡ false → kept_behind b xs ys ≡ xs
+pub noted_nothing : (b : Bool) (xs ys : List Note) → b ≡ false → kept_behind b xs ys ≡ xs
 noted_nothing true xs ys e = absurd cc
 noted_nothing false xs ys e = refl
 
@@ -51,7 +51,7 @@ unnoted_is view o l new (Ok b) h e f = (h, f ∙ ap (λ xs. record l { notes = x
 unnoted_is view o l new (Err (Fault k)) h e f = (h, f ∙ ap (λ xs. record l { notes = xs }) (sym (noted_nothing l.keeps l.notes o.notes e)))
 unnoted_is view o l new (Err NoMemory) h e f = f
 
-noted_all : (b : Bool) (xs ys : List Note) → b ≡ true → kept_behind b xs ys ≡ xs ++ ys
+pub noted_all : (b : Bool) (xs ys : List Note) → b ≡ true → kept_behind b xs ys ≡ xs ++ ys
 noted_all true xs ys e = refl
 noted_all false xs ys e = absurd cc
 

@@ -1,5 +1,5 @@
 // A layer takes over what a record has, or what a layer has that becomes a record.
-ghost use Rattle.std.specs.Prelude.{◌≡◌, ◌<◌, ◌++◌, List, IfOk, OnErr, OnOk, All, Some, length, map, pos, slice_set, vec_len, vec_capacity, true};
+ghost use Rattle.std.specs.Prelude.{◌≡◌, ◌<◌, ◌++◌, List, IfOk, OnErr, OnOk, All, Some, length, map, pos, slice_set, vec_len, vec_capacity, true, false};
 ghost use Rattle.monoid_laws.specs.Worth.{Worth};
 ghost use Rattle.monoid_laws.specs.declared.Kind.{Kind};
 ghost use Rattle.monoid_laws.specs.declared.Val.TheVariants.{Int, Arg};
@@ -27,6 +27,7 @@ use view_pool::View;
 impl<V: View> Layer<V> {
     /// Puts behind it what a record has of an instance at that depth, its readings where those are kept. Where memory is refused, or
     /// the depth is past its limit, some of the record's values are in and the others are not, and nothing else has changed.
+    #[tactic(auto, using(crate::proofs::Kept::noted_nothing))]
     pub(crate) fn absorb(
         &mut self,
         alloc: Global,
@@ -38,13 +39,35 @@ impl<V: View> Layer<V> {
         ensures absorbed { OnOk result (self.new ≡ absorbing record.now depth self.old) }
         ensures partly { OnErr result (IsSameButWorths self.old self.new) }
     {
+        if self.keeps {
+            return self.absorb_kept(alloc, record, depth);
+        }
+        let Some(levels) = depth.checked_add(record.height()) else {
+            return Err(AllocError);
+        };
+        absorb_values(&mut self.hypermap, alloc, record.contribution())?;
+        flag_entered(&mut self.entered, record.entered());
+        self.deepest = self.deepest.max(levels.saturating_sub(1));
+        Ok(())
+    }
+
+    // The same where readings are kept.
+    #[inline(never)]
+    #[tactic(auto, using(crate::proofs::Kept::noted_all))]
+    fn absorb_kept(&mut self, alloc: Global, record: &Record, depth: u32) -> Result<(), AllocError>
+        requires keeps { self.old.keeps ≡ true }
+        requires monoids { All IsMonoid self.old.kinds }
+        requires values { AreValuesFrom 0 self.old.kinds record.now.contribution }
+        ensures absorbed { OnOk result (self.new ≡ absorbing record.now depth self.old) }
+        ensures partly { OnErr result (IsSameButWorths self.old self.new) }
+    {
         let Some(levels) = depth.checked_add(record.height()) else {
             return Err(AllocError);
         };
         self.shared.reserve(1)?;
-        let reads = reads_kept(self.keeps, record.reads())?;
+        let reads = record.reads().share()?;
         absorb_values(&mut self.hypermap, alloc, record.contribution())?;
-        push_kept(&mut self.shared, reads);
+        push_shared(&mut self.shared, reads);
         flag_entered(&mut self.entered, record.entered());
         self.deepest = self.deepest.max(levels.saturating_sub(1));
         Ok(())
@@ -75,6 +98,7 @@ impl<V: View> Layer<V> {
 }
 
 /// Combines copies of these values on the right of the reducers' values. Where memory is refused, some of the first ones are in.
+#[inline(always)]
 fn absorb_values<V: View>(
     hypermap: &mut Hypermap<V>,
     alloc: Global,
@@ -96,6 +120,54 @@ fn absorb_values<V: View>(
 /// Combines a copy of what a reducer was given on the right of its value; where memory is refused all values stay.
 #[inline(always)]
 fn absorb_gift<V: View>(
+    hypermap: &mut Hypermap<V>,
+    alloc: Global,
+    gift: &Gift,
+) -> Result<(), AllocError>
+    requires reducer_is { (given_by gift.now).0 < length hypermap.old.kinds }
+    requires of_kind { (c : Kind) → IsAt hypermap.old.kinds (given_by gift.now).0 c
+        → IsWorth c (meaning (given_by gift.now).1) }
+    ensures kinds { hypermap.new.kinds ≡ hypermap.old.kinds }
+    ensures absorbed { (c : Kind) (x : Worth) → IsAt hypermap.old.kinds (given_by gift.now).0 c
+        → IsAt hypermap.old.worths (given_by gift.now).0 x
+        → OnOk result (hypermap.new.worths
+        ≡ slice_set hypermap.old.worths (given_by gift.now).0 (operate c x (meaning (given_by gift.now).1))) }
+{
+    if absorb_short(hypermap, gift) {
+        return Ok(());
+    }
+    absorb_copy(hypermap, alloc, gift)
+}
+
+/// The same where it takes no memory and is done at once; whether it was, else all values stay.
+#[inline(always)]
+fn absorb_short<V: View>(hypermap: &mut Hypermap<V>, gift: &Gift) -> bool
+    requires reducer_is { (given_by gift.now).0 < length hypermap.old.kinds }
+    requires of_kind { (c : Kind) → IsAt hypermap.old.kinds (given_by gift.now).0 c
+        → IsWorth c (meaning (given_by gift.now).1) }
+    ensures kinds { hypermap.new.kinds ≡ hypermap.old.kinds }
+    ensures absorbed { (c : Kind) (x : Worth) → IsAt hypermap.old.kinds (given_by gift.now).0 c
+        → IsAt hypermap.old.worths (given_by gift.now).0 x → result ≡ true
+        → hypermap.new.worths
+        ≡ slice_set hypermap.old.worths (given_by gift.now).0 (operate c x (meaning (given_by gift.now).1)) }
+    ensures same { result ≡ false → hypermap.new.worths ≡ hypermap.old.worths }
+{
+    match gift {
+        Gift::Number { reducer, number } => {
+            hypermap.absorb_at_once(usize::from(*reducer), &value_of(number))
+        }
+        Gift::Best {
+            reducer,
+            second,
+            first,
+        } => hypermap.absorb_at_once(usize::from(*reducer), &best_of(first, second)),
+        Gift::Other(_) => false,
+    }
+}
+
+/// The same, whatever it takes.
+#[inline(never)]
+fn absorb_copy<V: View>(
     hypermap: &mut Hypermap<V>,
     alloc: Global,
     gift: &Gift,

@@ -41,6 +41,14 @@ impl View for EitherView {
     }
 
     #[inline(always)]
+    fn absorb_at_once(&mut self, value: &Val) -> bool {
+        match self {
+            EitherView::Plain(view) => (**view).absorb_at_once(value),
+            EitherView::Flat(view) => (**view).absorb_at_once(value),
+        }
+    }
+
+    #[inline(always)]
     fn take(&mut self) -> Val {
         match self {
             EitherView::Plain(view) => (**view).take(),

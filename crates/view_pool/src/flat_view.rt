@@ -4,7 +4,7 @@ ghost use Rattle.monoid_laws.specs.Kinds.{identity_of};
 
 use crate::View;
 use monoid_laws::{InjectError, Kind, Val};
-use reducer_values::{add_element, combine, copy_of, identity};
+use reducer_values::{add_element, combine, combine_at_once, copy_of, identity};
 use std::alloc::{AllocError, Global};
 use std::marker::Model;
 use std::mem;
@@ -56,6 +56,11 @@ impl View for FlatView {
 
     fn absorb(&mut self, value: Val) -> Result<(), Val> {
         combine(self.alloc, &self.kind, &mut self.value, value)
+    }
+
+    #[inline(always)]
+    fn absorb_at_once(&mut self, value: &Val) -> bool {
+        combine_at_once(&self.kind, &mut self.value, value)
     }
 
     fn take(&mut self) -> Val {

@@ -64,6 +64,11 @@ impl View for PlainView {
         combine_in_pieces(self.alloc, &self.kind, &mut self.value, value)
     }
 
+    #[inline(always)]
+    fn absorb_at_once(&mut self, value: &Val) -> bool {
+        combine_at_once(&self.kind, &mut self.value, value)
+    }
+
     fn take(&mut self) -> Val {
         mem::replace(&mut self.value, identity(self.alloc, self.kind))
     }

@@ -1,5 +1,5 @@
 //! The interface of a view, and the boxed view.
-ghost use Rattle.std.specs.Prelude.{◌≡◌, OnOk, OnErr, IfOk, IfErr, IsOk, length, true};
+ghost use Rattle.std.specs.Prelude.{◌≡◌, OnOk, OnErr, IfOk, IfErr, IsOk, length, true, false};
 ghost use Rattle.monoid_laws.specs.Worth.{Worth};
 ghost use Rattle.monoid_laws.specs.declared.Kind.{Kind};
 ghost use Rattle.monoid_laws.specs.Kinds.{operate, identity_of, meaning, element_of, IsWorth, names_element, refusal, arity};
@@ -38,6 +38,18 @@ pub trait View: Send + Drop {
         ensures room { worth_of self.old ≡ identity_of (kind_of self.old) → IsOk result }
         ensures same_kind { kind_of self.new ≡ kind_of self.old };
 
+    /// Combines a lent value on the right, where that takes no memory and is done at once; whether it was, else the value stays. A view
+    /// may leave it to `absorb`.
+    fn absorb_at_once(&mut self, _value: &Val) -> bool
+        requires of_kind { IsWorth (kind_of self.old) (meaning _value.now) }
+        ensures done { result ≡ true → worth_of self.new
+            ≡ operate (kind_of self.old) (worth_of self.old) (meaning _value.now) }
+        ensures same { result ≡ false → worth_of self.new ≡ worth_of self.old }
+        ensures same_kind { kind_of self.new ≡ kind_of self.old }
+    {
+        false
+    }
+
     /// Gives the value away and stands at the identity. It takes no memory.
     fn take(&mut self) -> Val
         ensures value { meaning result ≡ worth_of self.old }
@@ -69,6 +81,10 @@ impl View for Box<dyn View> {
 
     fn absorb(&mut self, value: Val) -> Result<(), Val> {
         (**self).absorb(value)
+    }
+
+    fn absorb_at_once(&mut self, value: &Val) -> bool {
+        (**self).absorb_at_once(value)
     }
 
     fn take(&mut self) -> Val {
