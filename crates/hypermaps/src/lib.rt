@@ -146,7 +146,28 @@ fn move_one<V: View>(left: &mut V, right: &mut V, fresh: bool) -> Result<(), All
         mem::swap(left, right);
         return Ok(());
     }
-    match left.absorb(right.take()) {
+    let value = right.take();
+    if left.absorb_at_once(&value) {
+        return Ok(());
+    }
+    absorb_taken(left, right, value)
+}
+
+/// The same of a value that was taken from `right`, where that may take memory. It is kept out of the quick way of folds.
+#[inline(never)]
+fn absorb_taken<V: View>(left: &mut V, right: &mut V, value: Val) -> Result<(), AllocError>
+    requires same_kind { V.kind_of left.old ≡ V.kind_of right.old }
+    requires of_kind { IsWorth (V.kind_of left.old) (meaning value) }
+    requires monoid { IsMonoid (V.kind_of left.old) }
+    requires empty { V.worth_of right.old ≡ identity_of (V.kind_of right.old) }
+    ensures left_kind { V.kind_of left.new ≡ V.kind_of left.old }
+    ensures right_kind { V.kind_of right.new ≡ V.kind_of right.old }
+    ensures moved { OnOk result (V.worth_of left.new ≡ operate (V.kind_of left.old) (V.worth_of left.old) (meaning value)) }
+    ensures emptied { OnOk result (V.worth_of right.new ≡ identity_of (V.kind_of left.old)) }
+    ensures left_kept { OnErr result (V.worth_of left.new ≡ V.worth_of left.old) }
+    ensures right_kept { OnErr result (V.worth_of right.new ≡ meaning value) }
+{
+    match left.absorb(value) {
         Ok(()) => Ok(()),
         Err(value) => {
             put_back(right, value);
