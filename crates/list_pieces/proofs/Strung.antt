@@ -1,44 +1,44 @@
 -- Items in several lists.
-use Rattle.std.proofs.Common.{◌≡◌, ℕ, ◌+◌, ◌≤◌, List, [], ◌∷◌, ◌++◌, ◌∙◌, length, refl, ap, subst, sym, rules}
+use Rattle.std.proofs.Common.{◌≡◌, ℕ, ◌+◌, List, [], ◌∷◌, ◌++◌, ◌∙◌, length, refl, ap, sym, rules, arith}
 use Rattle.std.proofs.lemmas.List.{append_assoc, length-append}
 use Rattle.std.specs.Prelude.{Vec}
 use Rattle.std.specs.declared.alloc.Global.{Global}
-use Rattle.list_pieces.specs.Pieces.{all_in, needed}
+use Rattle.list_pieces.specs.Pieces.{all_in}
 
 module _ {T : Type 0} where
-  pub none_in : (xs : List (Vec T Global)) → xs ≡ [] → all_in xs ≡ []
-  none_in [] e = refl
-  none_in (x ∷ xs) e = absurd cc
-
-  pub none_needed : (xs : List (Vec T Global)) (n m : ℕ) → xs ≡ [] → needed xs n ≤ m
-  none_needed [] n m e = search rules
-  none_needed (x ∷ xs) n m e = absurd cc
-
-  pub most_needed : (xs : List (Vec T Global)) (n m : ℕ) → n ≤ m → needed xs n ≤ m
-  most_needed [] n m e = search rules
-  most_needed (x ∷ xs) n m e = e
-
-  pub both_in : (xs ys : List (Vec T Global)) → all_in (xs ++ ys) ≡ all_in xs ++ all_in ys
+  both_in : (xs ys : List (Vec T Global)) → all_in (xs ++ ys) ≡ all_in xs ++ all_in ys
   both_in [] ys = refl
   both_in (x ∷ xs) ys = ap (λ zs. x.items ++ zs) (both_in xs ys) ∙ sym (append_assoc x.items (all_in xs) (all_in ys))
 
-  pub one_in : (x : Vec T Global) → all_in (x ∷ []) ≡ x.items
+  one_in : (x : Vec T Global) → all_in (x ∷ []) ≡ x.items
   one_in x = search rules
 
   -- a list, and lists behind it
-  pub between : (xs ys : List (Vec T Global)) (x : Vec T Global) → all_in ((xs ++ x ∷ []) ++ ys) ≡ (all_in xs ++ x.items) ++ all_in ys
+  between : (xs ys : List (Vec T Global)) (x : Vec T Global) → all_in ((xs ++ x ∷ []) ++ ys) ≡ (all_in xs ++ x.items) ++ all_in ys
   between xs ys x = both_in (xs ++ x ∷ []) ys ∙ ap (λ zs. zs ++ all_in ys) (both_in xs (x ∷ []) ∙ ap (λ zs. all_in xs ++ zs) (one_in x))
 
-  -- a list, its last part and lists behind it, and what comes behind these
-  pub joined : (xs ys zs : List (Vec T Global)) (x : Vec T Global) (rest : List T) → zs ≡ (xs ++ x ∷ []) ++ ys
-      → all_in zs ++ rest ≡ (all_in xs ++ x.items) ++ (all_in ys ++ rest)
-  joined xs ys zs x rest e = ap (λ ws. all_in ws ++ rest) e ∙ ap (λ ws. ws ++ rest) (between xs ys x)
-      ∙ append_assoc (all_in xs ++ x.items) (all_in ys) rest
+  -- three lists and what comes behind them
+  four : (a b c d : List T) → ((a ++ b) ++ c) ++ d ≡ a ++ (b ++ (c ++ d))
+  four a b c d = append_assoc (a ++ b) c d ∙ append_assoc a b (c ++ d)
+
+  -- lists put behind several
+  pub behind_several : (first : List T) (earlier more all : List (Vec T Global)) (y x : Vec T Global) (rest : List T)
+      → all ≡ ((earlier ++ y ∷ []) ++ x ∷ []) ++ more → first ++ (all_in all ++ rest) ≡ (first ++ (all_in earlier ++ y.items)) ++ (x.items ++ (all_in more ++ rest))
+  behind_several first earlier more all y x rest lists =
+      ap (λ ws. first ++ (all_in ws ++ rest)) lists
+      ∙ ap (λ ws. first ++ (ws ++ rest)) (between (earlier ++ y ∷ []) more x)
+      ∙ ap (λ ws. first ++ (((ws ++ x.items) ++ all_in more) ++ rest)) (both_in earlier (y ∷ []) ∙ ap (λ zs. all_in earlier ++ zs) (one_in y))
+      ∙ ap (λ ws. first ++ ws) (four (all_in earlier ++ y.items) x.items (all_in more) rest)
+      ∙ sym (append_assoc first (all_in earlier ++ y.items) (x.items ++ (all_in more ++ rest)))
 
   -- as many as all of these
-  pub counted : (xs ys zs : List (Vec T Global)) (x : Vec T Global) (n m k : ℕ) → zs ≡ (xs ++ x ∷ []) ++ ys
-      → n ≡ length (all_in xs) → m ≡ length x.items → k ≡ length (all_in ys) → n + m + k ≡ length (all_in zs)
-  counted xs ys zs x n m k e a b c = sym (ap (λ ws. length (all_in ws)) e ∙ ap length (between xs ys x)
-      ∙ length-append (all_in xs ++ x.items) (all_in ys)
-      ∙ ap (λ i. i + length (all_in ys)) (length-append (all_in xs) x.items)
-      ∙ ap (λ i. i + length x.items + length (all_in ys)) (sym a) ∙ ap (λ i. n + i + length (all_in ys)) (sym b) ∙ ap (λ i. n + m + i) (sym c))
+  pub counted_several : (earlier more all : List (Vec T Global)) (y x : Vec T Global) (f k m n : ℕ) → all ≡ ((earlier ++ y ∷ []) ++ x ∷ []) ++ more
+      → k ≡ f + length (all_in earlier) → m ≡ length y.items → n ≡ length x.items + length (all_in more) → k + m + n ≡ f + length (all_in all)
+  counted_several earlier more all y x f k m n lists a b c =
+      let all_length : length (all_in all) ≡ length (all_in earlier) + length y.items + length x.items + length (all_in more) =
+      ap (λ ws. length (all_in ws)) lists ∙ ap length (between (earlier ++ y ∷ []) more x)
+      ∙ length-append (all_in (earlier ++ y ∷ []) ++ x.items) (all_in more)
+      ∙ ap (λ i. i + length (all_in more)) (length-append (all_in (earlier ++ y ∷ [])) x.items)
+      ∙ ap (λ ws. length ws + length x.items + length (all_in more)) (both_in earlier (y ∷ []) ∙ ap (λ zs. all_in earlier ++ zs) (one_in y))
+      ∙ ap (λ i. i + length x.items + length (all_in more)) (length-append (all_in earlier) y.items) in
+      omega (arith, a, b, c, all_length)
