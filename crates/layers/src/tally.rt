@@ -101,6 +101,13 @@ impl Tally {
         }
     }
 
+    /// So many more records may come: a long list of them grows by it. It takes no memory.
+    pub fn expect(&mut self, records: u32)
+        ensures same { self.new ≡ self.old }
+    {
+        self.made.expect(records as usize);
+    }
+
     /// An instance is executed in the layer below; refused where a count is at its limit.
     pub fn pass(&mut self) -> Result<(), AllocError>
         ensures passed { OnOk result (self.new ≡ passing self.old) }
