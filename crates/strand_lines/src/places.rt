@@ -3,28 +3,16 @@ ghost use Rattle.std.specs.Prelude.{◌≡◌, map, not};
 ghost use Rattle.std.specs.Str.{bytes_eq};
 ghost use Rattle.meaning.specs.Strands.{is_held_at};
 ghost use Rattle.numbered_runs.specs.Named.{line};
-ghost use Rattle.strand_lines.specs.Lines.{is_unused, begins_with, has_strand};
+ghost use Rattle.strand_lines.specs.Lines.{begins_with, has_strand};
 
 use crate::states::is_held;
-use numbered_runs::step::{Place, StrandLine};
+use numbered_runs::step::StrandLine;
 
 /// Whether two places are the same.
 pub fn is_same(left: &[usize], right: &[usize]) -> bool
     ensures same { result ≡ bytes_eq left.now right.now }
 {
     left == right
-}
-
-/// Whether the place is none of these.
-pub fn is_unused(places: &[Place], place: &[usize]) -> bool
-    ensures unused { result ≡ is_unused place.now (map (λ p. p.items) places.now) }
-{
-    for other in places.iter() {
-        if is_same(other, place) {
-            return false;
-        }
-    }
-    true
 }
 
 /// Whether a worker holds the strand of that place.

@@ -1,23 +1,19 @@
 -- Which steps are taken, and what a history leaves.
 use Rattle.std.proofs.Common.{◌≡◌, ℕ, Bool, true, false, not, ◌&&◌, List, [], ◌∷◌, ◌++◌, Some, None, refl, sym, ap, ◌∙◌, bytes_eq}
 use Rattle.std.specs.Prelude.{reverse}
-use Rattle.std.specs.Global.{Vec}
-use Rattle.std.proofs.lemmas.List.{map-append, reverse-append}
+use Rattle.std.proofs.lemmas.List.{reverse-append}
 use Rattle.meaning.specs.Every.{every}
 use Rattle.meaning.specs.Outcome.{Place}
 use Rattle.meaning.specs.Strands.{Held, Line, Split, Fold, Book, is_free, may_fold, becomes, splits, folds, if_allowed}
 use Rattle.strand_list.specs.Laying.{laying_step, may_lay, state_as}
 use Rattle.strand_list.specs.declared.laid_state.LaidState.{LaidState}
 use Rattle.strand_list.specs.declared.laid_state.LaidState.TheVariants as laid_state
-use Rattle.strand_list.specs.Pages.{items_of, removes, Apart}
+use Rattle.strand_list.specs.Pages.{removes, Apart}
 use Rattle.strand_lines.specs.Lines.{is_unused}
 use Rattle.strand_list.specs.Steps.{Takes, may_split}
 use Rattle.strand_list.proofs.Lists.{folds_apart}
 
 -- ---- places that were split off, the last first
-
-pub items_snoc : (us : List (Vec ℕ)) (u : Vec ℕ) → reverse (items_of (us ++ u ∷ [])) ≡ u.items ∷ reverse (items_of us)
-items_snoc us u = ap reverse (map-append (λ (v : Vec ℕ). v.items) us (u ∷ [])) ∙ reverse-append (items_of us) (u.items ∷ [])
 
 every_snoc : (f : Place → Bool) (xs : List Place) (x : Place) → every f (xs ++ x ∷ []) ≡ (f x && every f xs)
 every_snoc f [] x = refl

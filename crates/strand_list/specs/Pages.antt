@@ -1,6 +1,5 @@
 -- Lists of strands in code, as the definitions have them.
 use Rattle.std.specs.Prelude.{ℕ, suc, Bool, false, cond, ◌&&◌, ◌||◌, List, [], ◌∷◌, map, Option, Some, None}
-use Rattle.std.specs.Global.{Vec}
 use Rattle.std.specs.Str.{bytes_eq}
 use Rattle.meaning.specs.Outcome.{Place}
 use Rattle.meaning.specs.Strands.{Line, done, waits, holds_by}
@@ -12,10 +11,6 @@ use Rattle.numbered_runs.specs.declared.step.StrandLine.{StrandLine}
 -- lines of code, as the definitions have them
 abbrev pub shown : List StrandLine → List Line
 shown lines = map line lines
-
--- vectors of places, as lists
-abbrev pub items_of : List (Vec ℕ) → List Place
-items_of vs = map (λ v. v.items) vs
 
 -- the number of the first line of a place; that of no line where there is none
 abbrev pub position : Place → List Line → ℕ

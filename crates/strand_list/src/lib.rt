@@ -9,3 +9,4 @@ pub mod laid_state;
 pub mod lines;
 mod numbers;
 pub mod page;
+mod spares;

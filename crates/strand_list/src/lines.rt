@@ -1,12 +1,11 @@
 //! Lists of strands: what stands in them, and what a step makes of them.
-ghost use Rattle.std.specs.Prelude.{◌≡◌, ◌<◌, length, Some, None, MatchOption, OnOk, OnErr};
+ghost use Rattle.std.specs.Prelude.{◌≡◌, ◌<◌, length, Some, None, MatchOption, vec_len, vec_capacity};
 ghost use Rattle.meaning.specs.Strands.{Held, done, waits, is_free, is_root, is_alone, may_fold, becomes, splits};
 ghost use Rattle.numbered_runs.specs.Named.{named_state, line};
 ghost use Rattle.strand_list.specs.Pages.{shown, position, removes, is_pair, begins_pair};
 ghost use Rattle.strand_list.specs.Pages.{are_neighbours, held_place};
 
 use numbered_runs::step::{Place, State, StrandLine};
-use std::alloc::{AllocError, Global};
 use strand_lines::places::{begins_with, is_same};
 use strand_lines::states::is_held_by;
 
@@ -141,15 +140,10 @@ pub fn set_state(lines: &mut Vec<StrandLine>, place: &[usize], state: State)
     }
 }
 
-/// A thief's strand stands behind the victim's.
-pub fn put_behind(
-    lines: &mut Vec<StrandLine>,
-    victim: &[usize],
-    new: Place,
-    thief: usize,
-) -> Result<(), AllocError>
-    ensures splits { OnOk result (shown lines.new.items ≡ splits (shown lines.old.items) victim.now new.items thief) }
-    ensures same { OnErr result (lines.new.items ≡ lines.old.items) }
+/// A thief's strand stands behind the victim's. It takes no memory.
+pub(crate) fn put_behind(lines: &mut Vec<StrandLine>, victim: &[usize], new: Place, thief: usize)
+    requires room { vec_len lines.old < vec_capacity lines.old }
+    ensures splits { shown lines.new.items ≡ splits (shown lines.old.items) victim.now new.items thief }
 {
     let line = StrandLine {
         place: new,
@@ -158,22 +152,22 @@ pub fn put_behind(
     match find(lines, victim) {
         Some(k) => {
             if lines.insert(k + 1, line).is_err() {
-                return Err(AllocError);
+                unreachable!()
             }
-            Ok(())
         }
-        None => Ok(()),
+        None => {}
     }
 }
 
-/// The strand of that place is no more in the list.
-pub fn take_out(lines: &mut Vec<StrandLine>, place: &[usize])
+/// The strand of that place is no more in the list; what its place lay in.
+pub(crate) fn take_out(lines: &mut Vec<StrandLine>, place: &[usize]) -> Option<Place>
     ensures removes { shown lines.new.items ≡ removes (shown lines.old.items) place.now }
 {
     match find(lines, place) {
         Some(k) => {
-            lines.remove(k);
+            let StrandLine { place, .. } = lines.remove(k);
+            Some(place)
         }
-        None => {}
+        None => None,
     }
 }

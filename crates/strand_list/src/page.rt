@@ -6,41 +6,45 @@ use crate::lines::{
     are_neighbours, find, is_alone, is_free, is_root, may_fold, put_behind, set_state, take_out,
 };
 use crate::numbers::number_of;
+use crate::spares::{copy_of, keep};
 use numbered_runs::step::{BookStep, Place, State, StrandLine};
 use place_chains::places::Places;
 use std::alloc::{AllocError, Global};
 use std::marker::Model;
-use strand_lines::places::{has_strand, is_held_at, is_unused, lacks_strand};
+use strand_lines::place_list::PlaceList;
+use strand_lines::places::{has_strand, is_held_at, lacks_strand};
 
 /// For how many places that are split off room is made with the first one.
 const FEW: usize = 16;
 
-/// The strands in serial order, and the places that were split off, which are found by their numbers.
+/// The strands in serial order, and the places that were split off, which are found by their numbers. Lists that lines have left are kept
+/// for the places of other lines.
 #[derive(Drop)]
 pub struct Page {
     lines: Vec<StrandLine>,
-    split_off: Vec<Place>,
+    split_off: PlaceList,
     numbers: Places,
+    spares: Vec<Place>,
 }
 
 impl Model for Page {
     ghost use Rattle.std.specs.Prelude.{◌≡◌, map, reverse};
     ghost use Rattle.meaning.specs.Strands.{Book};
     ghost use Rattle.strand_list.specs.Numbers.{number_of};
-    ghost use Rattle.strand_list.specs.Pages.{shown, items_of};
+    ghost use Rattle.strand_list.specs.Pages.{shown};
 
     ghost Value = { Book };
 
-    ghost view = { λ p. record { lines = shown p.lines.items; split_off = reverse (items_of p.split_off.items) } };
+    ghost view = { λ p. record { lines = shown p.lines.items; split_off = reverse p.split_off } };
 
-    ghost invariant = { λ p. p.numbers.numbers ≡ map number_of (items_of p.split_off.items) };
+    ghost invariant = { λ p. p.numbers.numbers ≡ map number_of p.split_off };
 }
 
-/// For how many more numbers of places room is made where there are so many.
-fn more_for(places: usize) -> usize
+/// For how many more numbers of places room is made, where there is none yet or there are some.
+fn more_for(is_first: bool) -> usize
     ensures some { 0 < result }
 {
-    if places == 0 { FEW } else { 1 }
+    if is_first { FEW } else { 1 }
 }
 
 impl Page {
@@ -63,8 +67,9 @@ impl Page {
         })?;
         Ok(Page {
             lines,
-            split_off: Vec::new(alloc),
+            split_off: PlaceList::new(alloc),
             numbers: Places::new(alloc),
+            spares: Vec::new(alloc),
         })
     }
 
@@ -125,7 +130,7 @@ impl Page {
         if self.numbers.newest(number_of(place)) == 0 {
             return true;
         }
-        is_unused(&self.split_off, place)
+        self.split_off.is_unused(place)
     }
 
     /// Whether a thief may go on with a part of the victim's strand at that place.
@@ -150,12 +155,11 @@ impl Page {
         ensures noted { OnOk result (self.new.split_off ≡ new.now ∷ self.old.split_off) }
         ensures same { OnErr result (self.new ≡ self.old) }
     {
-        let place = Vec::from_slice(alloc, new)?;
-        let noted = Vec::from_slice(alloc, new)?;
-        self.numbers.reserve(more_for(self.split_off.len()))?;
-        self.split_off.reserve(1)?;
-        put_behind(&mut self.lines, victim, place, thief)?;
-        self.split_off.push_reserved(noted);
+        let place = copy_of(&mut self.spares, alloc, new)?;
+        self.numbers.reserve(more_for(self.split_off.is_empty()))?;
+        self.lines.reserve(1)?;
+        self.split_off.push(new)?;
+        put_behind(&mut self.lines, victim, place, thief);
         self.numbers.push(number_of(new));
         Ok(())
     }
@@ -216,9 +220,19 @@ impl Page {
         if !self.may_fold(left, right, worker) {
             return false;
         }
-        take_out(&mut self.lines, right);
-        set_state(&mut self.lines, left, State::Held(worker));
+        self.become_one(left, right, worker);
         true
+    }
+
+    /// Two neighbours are one strand, which the worker holds, as is allowed.
+    fn become_one(&mut self, left: &[usize], right: &[usize], worker: usize)
+        requires apart { Apart self.old.lines }
+        requires may { (may_fold self.old.lines left.now right.now && is_free self.old.lines worker) ≡ true }
+        ensures taken { Takes self.old (Fold left.now right.now worker) true self.new }
+    {
+        let over = take_out(&mut self.lines, right);
+        keep(&mut self.spares, over);
+        set_state(&mut self.lines, left, State::Held(worker));
     }
 
     /// Two neighbours are one strand by a step that is allowed.
@@ -228,9 +242,7 @@ impl Page {
         ensures taken { Takes self.old (book_step step.now) true self.new }
     {
         match step {
-            BookStep::Fold(left, right, worker) => {
-                let _ = self.fold(left, right, *worker);
-            }
+            BookStep::Fold(left, right, worker) => self.become_one(left, right, *worker),
             _ => unreachable!(),
         }
     }

@@ -13,14 +13,9 @@ returns-else-is_err c =
     record {
       splits = ap shown put ∙ put_behind_at c.args.victim.now c.args.lines.now.items c.in-Some.k c.args.thief l
           (c.in-Some.ensures.0 ∙ ap (λ xs. position c.args.victim.now (shown xs)) c.deref.ensures.value) (subst (λ xs. c.in-Some.k < length xs) c.deref.ensures.value c.in-Some.ensures.1) refl;
-      same = tt;
     }
-
-pub returns-then-is_err : goal.returns-then-is_err
-returns-then-is_err c = record { splits = tt; same = search rules }
 
 pub returns-in-None : goal.returns-in-None
 returns-in-None c = record {
   splits = put_behind_missing c.args.victim.now c.args.new.items c.args.thief c.args.lines.now.items (subst (λ xs. position c.args.victim.now (shown xs) ≡ length xs) c.deref.ensures.value c.in-None.ensures);
-  same = tt;
 }

@@ -5,7 +5,7 @@ use Rattle.strand_list.proofs.lines.take_out.Goals as goal
 
 pub returns-in-Some : goal.returns-in-Some
 returns-in-Some c = record {
-  removes = ap shown c.remove.ensures.items ∙ take_out_at c.args.place.now c.args.lines.now.items c.in-Some.k
+  removes = ap shown c.remove-place.ensures.items ∙ take_out_at c.args.place.now c.args.lines.now.items c.in-Some.k
       (c.in-Some.ensures.0 ∙ ap (λ xs. position c.args.place.now (shown xs)) c.deref.ensures.value) (subst (λ xs. c.in-Some.k < length xs) c.deref.ensures.value c.in-Some.ensures.1);
 }
 
