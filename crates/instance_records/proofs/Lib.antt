@@ -1,4 +1,6 @@
 pub mod Covered
+pub mod HadCells
+pub mod MoreRows
 pub mod NodeNotes
 pub mod Narrowed
 pub mod Touched

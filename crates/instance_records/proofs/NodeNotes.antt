@@ -66,7 +66,7 @@ below_covered_out b = ap (λ x. (below_told x).1) (sym (roll-out-Below b)) ∙ b
 every_both : {A : Type 0} (p : A → Bool) (xs ys : List A) → every p xs ≡ true → every p ys ≡ true → every p (xs ++ ys) ≡ true
 every_both p xs ys e f = every_append p xs ys ∙ both (every p xs) (every p ys) e f
 
-append_nil : {A : Type 0} (xs : List A) → xs ++ [] ≡ xs
+pub append_nil : {A : Type 0} (xs : List A) → xs ++ [] ≡ xs
 append_nil [] = refl
 append_nil (x ∷ xs) = ap (λ ys. x ∷ ys) (append_nil xs)
 

@@ -7,6 +7,7 @@ use Rattle.instance_records.proofs.arguments.Arguments.TheSendSync as arguments
 use Rattle.instance_records.proofs.entries.Entries.TheSendSync as entries
 use Rattle.evaluation.proofs.reading.Reading.TheSendSync as reading
 use Rattle.instance_records.proofs.spans.Span.TheSendSync as spans
+use Rattle.instance_records.proofs.full.Full.TheSendSync as fulls
 use Rattle.instance_records.specs.contracts.readings.Node as Node
 use Rattle.instance_records.specs.contracts.readings.Readings as Readings
 use Rattle.instance_records.specs.contracts.record.Record as Record
@@ -19,6 +20,7 @@ node_send =
     (λ h s y. search (sendable, crosses) depth 20)
     (λ h s y. search (sendable, crosses) depth 20)
     (Vec-send _ spans.the_send) (Vec-sync _ spans.the_sync)
+    fulls.the_field_send fulls.the_field_sync
     (search (sendable, crosses, reading.the_send) depth 20) (search (sendable, crosses, reading.the_sync) depth 20)
     (λ h s y. search (sendable, crosses) depth 20)
     (λ h s y. search (sendable, crosses) depth 20)
@@ -29,6 +31,7 @@ node_sync =
     (λ h s y. search (sendable, crosses) depth 20)
     (λ h s y. search (sendable, crosses) depth 20)
     (Vec-send _ spans.the_send) (Vec-sync _ spans.the_sync)
+    fulls.the_field_send fulls.the_field_sync
     (search (sendable, crosses, reading.the_send) depth 20) (search (sendable, crosses, reading.the_sync) depth 20)
     (λ h s y. search (sendable, crosses) depth 20)
     (λ h s y. search (sendable, crosses) depth 20)

@@ -2,10 +2,13 @@
 #![tactic(auto)]
 
 pub mod arguments;
+mod below;
 pub mod entries;
+mod full;
 pub mod gift;
 pub mod hull;
 pub mod key;
+mod lines;
 pub mod narrowing;
 mod pairs;
 pub mod readings;

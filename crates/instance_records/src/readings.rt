@@ -6,20 +6,24 @@ ghost use Rattle.evaluation.specs.declared.note.Note.{Note as PlainNote};
 ghost use Rattle.evaluation.specs.declared.note.Note.TheVariants.{Cell, Sum};
 ghost use Rattle.evaluation.specs.Short.{note_of};
 ghost use Rattle.instance_records.specs.Spans.{is_covered_by};
-ghost use Rattle.instance_records.specs.Readings.{all_of, node_notes, shared_notes, held_notes, is_covered, is_covered_share, is_covered_below};
+ghost use Rattle.std.specs.Arc.{arc_value};
+ghost use Rattle.instance_records.specs.Full.{HasCells, IsFullNode};
+ghost use Rattle.instance_records.specs.Readings.{all_of, node_notes, shared_notes, is_covered, is_covered_share};
 ghost use Rattle.instance_records.specs.ShortLists.{items_in};
 ghost use Rattle.record_theory.specs.Validity.{note_agrees};
 ghost use Rattle.record_theory.specs.InStep.{is_apart};
 ghost use Rattle.record_theory.specs.Counts.{how_many};
 ghost use Rattle.record_theory.specs.Same.{is_read, same_note};
 
+use crate::below::{make_below, put_node};
+use crate::full::Full;
 use crate::narrowing::{how_many, how_many_own, lowest, touched_own};
 use crate::pairs::{are_pairs, with_pairs};
 use crate::short_list::ShortList;
-use crate::spans::{Span, cover_all, first_row, may_have, put_pair, put_read, put_spans};
+use crate::spans::{Span, cover_all, first_row, may_have, put_pair};
 use crate::touching::{
-    are_own_touched, are_sums, may_have_sums, node_first_row, node_has_row, node_is_touched,
-    node_lies_in,
+    are_own_touched, are_sums, has_line, may_have_sums, node_first_row, node_has_row,
+    node_is_touched, node_lies_in,
 };
 use crate::walks::{node_agrees, put_notes, put_own};
 use crate::ways::{HERE, own_by, way_to};
@@ -35,9 +39,6 @@ use std::sync::Arc;
 /// So many own readings at most are looked through one by one. More of them lie below by themselves, to be passed over by their rows.
 const FEW: usize = 4;
 
-/// What was read is mostly of so many tables.
-const TABLES: usize = 1;
-
 /// What an instance has read of its own, and what those below it have. Most have none below, so that lies by itself.
 #[cycle(parts)]
 #[derive(Drop)]
@@ -46,12 +47,14 @@ pub(crate) struct Node {
     pub(crate) below: Option<Box<Below>>,
 }
 
-/// The parts, which are some, and spans of rows that hold all that they and those below them have read.
+/// The parts, which are some, spans of rows that hold all that they and those below them have read, and rows of which they have read the
+/// cells.
 #[cycle(parts)]
 #[derive(Drop)]
 pub(crate) struct Below {
     pub(crate) parts: Vec<Arc<Node>>,
     pub(crate) spans: Vec<Span>,
+    pub(crate) full: Full,
 }
 
 /// Two readings with none below them, which take no memory of their own, or a node.
@@ -71,13 +74,14 @@ pub struct Readings {
 impl Model for Readings {
     ghost use Rattle.std.specs.Prelude.{◌≡◌, true, List};
     ghost use Rattle.evaluation.specs.declared.note.Note.{Note};
+    ghost use Rattle.instance_records.specs.Full.{IsFullIn};
     ghost use Rattle.instance_records.specs.Readings.{notes_in, is_covered_in};
 
     ghost Value = { List Note };
 
     ghost view = { λ r. notes_in r.held };
 
-    ghost invariant = { λ r. is_covered_in r.held ≡ true };
+    ghost invariant = { λ r. (is_covered_in r.held ≡ true) × IsFullIn r.held };
 }
 
 impl Readings {
@@ -216,10 +220,11 @@ impl Readings {
         }
     }
 
-    // The node of these readings, which is made of two.
-    fn into_node(self, alloc: Global) -> Result<Arc<Node>, AllocError>
+    /// The node of these readings, which is made of two.
+    pub(crate) fn into_node(self, alloc: Global) -> Result<Arc<Node>, AllocError>
         ensures notes { IfOk result (λ n. shared_notes n ≡ self) }
         ensures covered { IfOk result (λ n. is_covered_share n ≡ true) }
+        ensures full { IfOk result (λ n. IsFullNode (arc_value n)) }
     {
         match self.held {
             Held::Two(pair) => {
@@ -320,6 +325,18 @@ impl Readings {
         }
     }
 
+    /// Whether of the changed row all cells of the columns from one up to another were read, as far as that was noted when this was put
+    /// together.
+    #[inline(always)]
+    pub fn have_line(&self, change: &(usize, i64), first: usize, end: usize) -> bool
+        ensures have { result ≡ true → HasCells self.now change.now.0 change.now.1 first end }
+    {
+        match &self.held {
+            Held::Two(_) => false,
+            Held::Shared(node) => has_line(node, change, first, end),
+        }
+    }
+
     /// Whether the rows of all that was read lie in these spans.
     pub(crate) fn lie_in(&self, spans: &[Span]) -> bool
         ensures lie { result ≡ true → every (is_covered_by spans.now) self.now ≡ true }
@@ -368,55 +385,6 @@ impl Readings {
             Held::Shared(node) => put_notes(node, &mut notes)?,
         }
         Ok(notes)
-    }
-}
-
-// These readings below an instance, if there are any.
-fn make_below(alloc: Global, parts: Vec<Readings>) -> Result<Option<Box<Below>>, AllocError>
-    ensures below { IfOk result (λ b. held_notes b ≡ all_of parts.items) }
-    ensures covered { IfOk result (λ b. is_covered_below b ≡ true) }
-{
-    if parts.is_empty() {
-        return Ok(None);
-    }
-    let mut spans = Vec::with_capacity(alloc, TABLES)?;
-    let parts = nodes(alloc, parts, &mut spans)?;
-    spans.shrink_to_fit();
-    Ok(Some(Box::new(alloc, Below { parts, spans })?))
-}
-
-// The nodes of these readings, without spare room; the rows of all that was read there are put into the spans.
-fn nodes(
-    alloc: Global,
-    parts: Vec<Readings>,
-    spans: &mut Vec<Span>,
-) -> Result<Vec<Arc<Node>>, AllocError>
-    ensures nodes { IfOk result (λ ns. flat_map shared_notes ns.items ≡ all_of parts.items) }
-    ensures each { IfOk result (λ ns. every is_covered_share ns.items ≡ true) }
-    ensures spans { IfOk result (λ ns.
-        every (is_covered_by spans.new.items) (flat_map shared_notes ns.items) ≡ true) }
-{
-    let mut nodes = Vec::new(alloc);
-    nodes.reserve_exact(parts.len())?;
-    for part in parts {
-        let node = part.into_node(alloc)?;
-        put_node(&node, spans)?;
-        nodes.push(node)?;
-    }
-    Ok(nodes)
-}
-
-// Joins spans with the rows of what was read there and below: its parts aren't asked, since their rows lie in its own spans.
-fn put_node(node: &Node, spans: &mut Vec<Span>) -> Result<(), AllocError>
-    requires covered { is_covered node.now ≡ true }
-    ensures kept { OnOk result ((note : PlainNote) → is_covered_by spans.old.items note ≡ true
-        → is_covered_by spans.new.items note ≡ true) }
-    ensures put { OnOk result (every (is_covered_by spans.new.items) (node_notes node.now) ≡ true) }
-{
-    put_read(node.own.as_slice(), spans)?;
-    match &node.below {
-        Some(below) => put_spans(&below.spans, spans),
-        None => Ok(()),
     }
 }
 

@@ -1,10 +1,11 @@
 //! Stretches of rows in which what was read lies, one for each table.
-ghost use Rattle.std.specs.Prelude.{◌≡◌, IfOk, IfSome, OnOk, Some, map, nat_eq, pos, false, true};
+ghost use Rattle.std.specs.Prelude.{◌≡◌, ◌≤ℤ◌, IfOk, IfSome, List, OnOk, Some, map, nat_eq, pos, false, true};
 ghost use Rattle.std.specs.Int.{int_min, int_max};
 ghost use Rattle.std.specs.List.{list_any};
 ghost use Rattle.evaluation.specs.declared.note.Note.{Note as PlainNote};
 ghost use Rattle.evaluation.specs.Short.{note_of};
 ghost use Rattle.meaning.specs.Every.{every};
+ghost use Rattle.instance_records.specs.declared.spans.Span.{Span as PlainSpan};
 ghost use Rattle.instance_records.specs.Spans.{span_of, has_row, has_rows, hold_rows, covers, lies_in, joined, put_span, put_spans, is_covered_by, is_touched};
 
 use evaluation::note::Note;
@@ -22,8 +23,8 @@ pub struct Span {
 }
 
 impl Span {
-    // The rows that a reading rests on.
-    fn new(reading: &Reading) -> Span
+    /// The rows that a reading rests on.
+    pub(crate) fn new(reading: &Reading) -> Span
         ensures span { result ≡ span_of reading.now }
     {
         match reading {
@@ -84,6 +85,44 @@ impl Span {
         let row = i64::from(row);
         self.low = self.low.min(row);
         self.high = self.high.max(row);
+    }
+
+    // Puts in one more row of the same table that was asked for.
+    #[inline(always)]
+    fn put_asked(&mut self, row: &i64)
+        ensures joined { self.new ≡ record {
+          table = self.old.table;
+          whole = self.old.whole;
+          low = int_min self.old.low row.now;
+          high = int_max self.old.high row.now;
+        } }
+    {
+        self.low = self.low.min(*row);
+        self.high = self.high.max(*row);
+    }
+
+    /// Whether that row is between its first and its last one: so it is as if it had been put in.
+    #[inline(always)]
+    pub(crate) fn holds(&self, table: u16, row: u32) -> bool
+        ensures holds { result ≡ true → (spans : List PlainSpan)
+            → put_span (put_span spans self.now) (record { table = table; whole = false; low = pos row; high = pos row })
+            ≡ put_span spans self.now }
+    {
+        if !self.is_around(table, row) {
+            return false;
+        }
+        true
+    }
+
+    // Whether that row of the table is between its first and its last one.
+    #[inline(always)]
+    fn is_around(&self, table: u16, row: u32) -> bool
+        ensures low { result ≡ true → self.now.low ≤ℤ pos row }
+        ensures high { result ≡ true → pos row ≤ℤ self.now.high }
+        ensures table { result ≡ true → self.now.table ≡ table }
+    {
+        let row = i64::from(row);
+        self.low <= row && row <= self.high && self.table == table
     }
 
     // Whether these are the rows of the other.
@@ -158,8 +197,8 @@ impl Span {
     }
 }
 
-// Joins it with the span of its table, where there is one.
-fn put_span(span: &Span, spans: &mut Vec<Span>) -> Result<(), AllocError>
+/// Joins it with the span of its table, where there is one.
+pub(crate) fn put_span(span: &Span, spans: &mut Vec<Span>) -> Result<(), AllocError>
     ensures put { OnOk result (spans.new.items ≡ put_span spans.old.items span.now) }
 {
     for place in 0..spans.len() {
@@ -206,15 +245,23 @@ fn put_from(own: &[Reading], first: Span, spans: &mut Vec<Span>) -> Result<(), A
     put_span(&run, spans)
 }
 
-// Joins rows that aren't in the spans yet with those of a reading, and puts them in first, where that is of another table.
+/// Joins rows that aren't in the spans yet with those of a reading, and puts them in first, where that is of another table.
 #[inline(always)]
-fn join_on(run: &mut Span, reading: &Reading, spans: &mut Vec<Span>) -> Result<(), AllocError>
+pub(crate) fn join_on(
+    run: &mut Span,
+    reading: &Reading,
+    spans: &mut Vec<Span>,
+) -> Result<(), AllocError>
     ensures joined { OnOk result (put_span spans.new.items run.new
         ≡ put_span (put_span spans.old.items run.old) (span_of reading.now)) }
 {
     match reading {
         Reading::Cell { table, row, .. } if *table == run.table => {
             run.put_row(*row);
+            Ok(())
+        }
+        Reading::Has { table, row, .. } if *table == run.table => {
+            run.put_asked(row);
             Ok(())
         }
         _ => turn_to(run, reading, spans),

@@ -6,6 +6,7 @@ ghost use Rattle.meaning.specs.Every.{every};
 ghost use Rattle.evaluation.specs.declared.note.Note.TheVariants.{Sum};
 ghost use Rattle.evaluation.specs.Short.{note_of};
 ghost use Rattle.instance_records.specs.Spans.{is_covered_by};
+ghost use Rattle.instance_records.specs.Full.{HasCells, IsFullNode};
 ghost use Rattle.instance_records.specs.Readings.{node_notes, is_a_sum, is_covered};
 ghost use Rattle.record_theory.specs.InStep.{rests_on, is_apart};
 ghost use Rattle.record_theory.specs.Same.{is_read};
@@ -46,6 +47,18 @@ pub(crate) fn node_first_row(node: &Node) -> Option<(usize, i64)> {
     match &node.below {
         Some(below) => first_row(node.own.as_slice(), &below.spans),
         None => first_row(node.own.as_slice(), &[]),
+    }
+}
+
+/// Whether of the changed row all cells of the columns from one up to another were read below, as far as that is noted there.
+#[inline(always)]
+pub(crate) fn has_line(node: &Node, change: &(usize, i64), first: usize, end: usize) -> bool
+    requires full { IsFullNode node.now }
+    ensures has { result ≡ true → HasCells (node_notes node.now) change.now.0 change.now.1 first end }
+{
+    match &node.below {
+        Some(below) => below.full.has(change, first, end),
+        None => false,
     }
 }
 

@@ -2,7 +2,7 @@ use Rattle.std.proofs.Common.{ap, map, ◌∙◌}
 use Rattle.instance_records.specs.declared.readings.Below.{out-Below}
 use Rattle.instance_records.specs.Spans.{span_of, put_spans}
 use Rattle.instance_records.proofs.NodeNotes.{still_covered, alone_covered, all_covered, on_ok}
-use Rattle.instance_records.proofs.readings.put_node.Goals as goal
+use Rattle.instance_records.proofs.below.put_node.Goals as goal
 
 pub returns-in-None-clause-kept : goal.returns-in-None-clause-kept
 returns-in-None-clause-kept c = still_covered c.args.spans.now.items c.put_read.new.spans.items (map span_of c.as_slice.result.now) c.in_ok-put_read.ensures.put
