@@ -1,4 +1,4 @@
-//! Steps one behind another, and how they are counted.
+//! Steps one behind another.
 ghost use Rattle.std.specs.Prelude.{◌≡◌, ◌<◌, ◌++◌, ◌∷◌, [], length, vec_len, vec_capacity};
 
 /// Puts a step behind the others, for which there is room.
@@ -8,12 +8,4 @@ pub fn put_step<T: Drop>(history: &mut Vec<T>, step: T)
     ensures put { history.new.items ≡ history.old.items ++ step ∷ [] }
 {
     history.push_reserved(step);
-}
-
-/// The number of the step behind so many, counted from 0.
-#[inline(always)]
-pub fn number_behind(steps: usize) -> usize
-    ensures number { result ≡ steps }
-{
-    steps
 }

@@ -9,7 +9,6 @@ ghost use Rattle.strand_list.specs.declared.error.ReplayError.TheVariants.{BadSt
 use crate::error::ReplayError;
 use crate::page::Page;
 use numbered_runs::step::{BookStep, StrandLine};
-use plain_rules::steps::number_behind;
 use std::alloc::{AllocError, Global};
 
 /// Takes a step of that number.
@@ -20,7 +19,7 @@ fn take_nth(page: &mut Page, alloc: Global, step: &BookStep, n: usize) -> Result
 {
     match page.take(alloc, step) {
         Ok(true) => Ok(()),
-        Ok(false) => Err(ReplayError::BadStep(number_behind(n))),
+        Ok(false) => Err(ReplayError::BadStep(n)),
         Err(AllocError) => Err(ReplayError::NoMemory),
     }
 }

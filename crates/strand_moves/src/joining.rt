@@ -13,7 +13,6 @@ use positions::start::Start;
 use small_steps::machine::Machine;
 use std::alloc::AllocError;
 use std::mem;
-use strand_parts::ends::first_fault;
 use strand_parts::layering::join_layers;
 use view_pool::{Kit, View};
 
@@ -154,7 +153,7 @@ fn take_up<V: View>(machine: &mut Machine<V>, right: &mut Machine<V>) -> Result<
             Phase::Broken(fault) => join_broken(machine, fault, right),
             _ => join_ended(machine, value, right),
         },
-        Phase::Broken(first) => join_broken(machine, first_fault(first, right.phase), right),
+        Phase::Broken(first) => join_broken(machine, first, right),
         _ => Ok(()),
     }
 }

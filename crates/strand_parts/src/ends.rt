@@ -7,7 +7,7 @@ ghost use Rattle.strand_parts.specs.Ends.{left_by};
 use activations::activation::Activation;
 use activations::waiting::{none_waits_below, none_waits_in};
 use linked_program::code::{Instruction, Operation};
-use positions::phase::{Fault, Phase};
+use positions::phase::Phase;
 use positions::start::Start;
 
 /// The value with which `main` has left, where it has: no instance waits below it, and none has entered it.
@@ -18,15 +18,6 @@ pub fn left_by(phase: Phase, below: &[Activation], path: &[usize]) -> Option<i64
         Phase::Leaving(value) if below.is_empty() && path.is_empty() => Some(value),
         _ => None,
     }
-}
-
-/// Of the fault of a left strand and what the right one comes to, the fault is first.
-#[inline(always)]
-pub fn first_fault(left: Fault, right: Phase) -> Fault
-    ensures first { result ≡ left }
-{
-    let _ = right;
-    left
 }
 
 /// Whether no name of a strand, given by its topmost instance's name and its instances, would wait for a child that ends after the beginning of
