@@ -22,9 +22,13 @@ all_mixed sum (z ∷ zs) = all_mixed (mixed sum z) zs
 abbrev pub turned : ℕ → ℕ → ℕ
 turned number by = number - number % 16 + (number % 16 + by % 16) % 16
 
+-- so much more, and all of it mixed
+abbrev pub spread : ℕ → ℕ → ℕ
+spread sum more = (sum + more) % 2 ^ 64 * factor % 2 ^ 64
+
 -- the last one: all but its last digit of sixteen is mixed in, and the upper half of that is turned by the digit
 abbrev pub last_mixed : ℕ → ℤ → ℕ
-last_mixed sum other = turned ((sum + added 0 other / 16) % 2 ^ 64 * factor % 2 ^ 64 / 4294967296) (added 0 other)
+last_mixed sum other = turned (spread sum (added 0 other / 16) / 4294967296) (added 0 other)
 
 abbrev pub number_in : ℕ → List ℤ → ℕ
 number_in sum [] = sum / 4294967296

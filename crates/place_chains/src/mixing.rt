@@ -1,6 +1,6 @@
 //! One number that stands for several.
-ghost use Rattle.std.specs.Prelude.{◌≡◌};
-ghost use Rattle.place_chains.specs.Mixing.{added, all_mixed, last_mixed, mixed, number_in, number_of, turned};
+ghost use Rattle.std.specs.Prelude.{◌≡◌, ◌/◌};
+ghost use Rattle.place_chains.specs.Mixing.{added, all_mixed, last_mixed, mixed, number_in, number_of, spread, turned};
 
 /// Odd, so that no product loses anything, with bits that follow no rule: those of the golden section.
 const FACTOR: u64 = 11400714819323198485;
@@ -20,7 +20,7 @@ fn number_in(sum: u64, others: &[i64]) -> u32
     ensures number { result ≡ number_in sum others.now }
 {
     match others.split_last() {
-        None => (sum / 4294967296) as u32,
+        None => upper_half(sum),
         Some((last, front)) => last_mixed(all_mixed(sum, front), *last),
     }
 }
@@ -47,8 +47,21 @@ fn last_mixed(sum: u64, other: i64) -> u32
     ensures mixed { result ≡ last_mixed sum other }
 {
     let whole = added(0, other);
-    let sum = sum.wrapping_add(whole / 16).wrapping_mul(FACTOR);
-    turned((sum / 4294967296) as u32, whole)
+    turned(upper_half(spread(sum, whole / 16)), whole)
+}
+
+// So much more, and all of it mixed.
+fn spread(sum: u64, more: u64) -> u64
+    ensures spread { result ≡ spread sum more }
+{
+    sum.wrapping_add(more).wrapping_mul(FACTOR)
+}
+
+// The upper half of a number.
+fn upper_half(number: u64) -> u32
+    ensures half { result ≡ number / 4294967296 }
+{
+    (number / 4294967296) as u32
 }
 
 // One more integer added.
