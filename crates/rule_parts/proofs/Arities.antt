@@ -1,5 +1,5 @@
 -- Each kind takes some values.
-use Rattle.std.proofs.Common.{ℕ, ◌<◌, lit<}
+use Rattle.std.proofs.Common.{◌<◌, lit<}
 use Rattle.monoid_laws.specs.declared.Kind.{Kind}
 use Rattle.monoid_laws.specs.declared.Kind.TheVariants as k
 use Rattle.monoid_laws.specs.Kinds.{arity}

@@ -8,7 +8,7 @@ ghost use Rattle.source_tree.specs.Layout.{laid_plain, laid_deed, laid_block, la
 use crate::pool::Pool;
 use crate::source::{self, line_of};
 use crate::terms::{lower_expression, lower_expressions, number_of_bound};
-use meaning::tree::{Action, Block, Statement, Way};
+use meaning::tree::{Action, Block, Expr, Statement, Way};
 use std::alloc::{AllocError, Global};
 
 fn bind(alloc: Global, pool: &mut Pool, x: &str, value: &source::Expr) -> Result<Action, AllocError>
@@ -74,11 +74,23 @@ fn loop_over(
         (phrases arguments.now))) }
 {
     let number = pool.number_of(alloc, x)?;
-    let low = lower_expression(alloc, pool, counted.low)?;
-    let high = lower_expression(alloc, pool, counted.high)?;
-    let arguments = lower_expressions(alloc, pool, arguments)?;
     let callee = String::from_str(alloc, callee)?;
-    Ok(Action::Loop(number, low, high, counted.grain, callee, arguments))
+    let low = lower_expression(alloc, pool, counted.low)?;
+    let high = match lower_expression(alloc, pool, counted.high) {
+        Ok(high) => high,
+        Err(refused) => return Err(without(low, refused)),
+    };
+    match lower_expressions(alloc, pool, arguments) {
+        Ok(arguments) => Ok(Action::Loop(number, low, high, counted.grain, callee, arguments)),
+        Err(refused) => Err(without(low, without(high, refused))),
+    }
+}
+
+// The refusal, where what was made before is let go.
+fn without(_made: Expr, refused: AllocError) -> AllocError
+    ensures { result ≡ refused }
+{
+    refused
 }
 
 #[cycle(laying)]
