@@ -223,7 +223,7 @@ impl<V: View> Machine<V> {
                 self.choose(setting.tables, number, position, condition, *first, *second)
             }
             Operation::Loop(_, low, high, _, _, _) => {
-                self.repeat(alloc, setting.tables, number, position, low, high)
+                self.repeat_first(alloc, setting, number, position, low, high)
             }
             Operation::Return(value) => self.give(setting.tables, number, value),
         }

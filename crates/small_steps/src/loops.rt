@@ -48,7 +48,7 @@ fn takes_number(arguments: &[Expression], variable: usize, slots: &[Slot]) -> bo
 
 impl<V: View> Machine<V> {
     /// Enters a loop's instance over the numbers between two values.
-    pub(crate) fn repeat(
+    fn repeat(
         &mut self,
         alloc: Global,
         tables: &Tables,
@@ -72,6 +72,54 @@ impl<V: View> Machine<V> {
                 }
             },
             None => Ok(()),
+        }
+    }
+
+    /// The same, and where records of its iterations are the first, room for all of them is made as they come.
+    pub(crate) fn repeat_first(
+        &mut self,
+        alloc: Global,
+        setting: Setting<'_>,
+        statement: u32,
+        position: Position,
+        low: &Expression,
+        high: &Expression,
+    ) -> Result<(), AllocError>
+        requires room { position.index + 1 < 2 ^ 64 }
+        ensures looped { OnOk result (self.new ≡ evaluated statement
+            (bounds_at setting.entry.tables.now.tables self.old.top.slots (plain low.now) (plain high.now)) (looping position) self.old) }
+        ensures unchanged { OnErr result (self.new ≡ self.old) }
+    {
+        self.repeat(alloc, setting.tables, statement, position, low, high)?;
+        self.expect_records(setting);
+        Ok(())
+    }
+
+    /// Records may come of all iterations of the loop whose instance was entered, where they are the first.
+    fn expect_records(&mut self, setting: Setting<'_>)
+        ensures same { self.new ≡ self.old }
+    {
+        match self.first_records(setting) {
+            Some(records) => self.tally.expect(records),
+            None => {}
+        }
+    }
+
+    /// How many records may come of the topmost instance, if it is a loop's over a memo procedure and there are no records yet.
+    fn first_records(&self, setting: Setting<'_>) -> Option<u32> {
+        if !setting.records.is_empty() {
+            return None;
+        }
+        match self.top.work() {
+            Work::Halves(site, _, share) => {
+                let code = loop_code(setting.program, self.top.procedure(), site);
+                if setting.program.is_memo(code.callee) {
+                    Some(share.count)
+                } else {
+                    None
+                }
+            }
+            _ => None,
         }
     }
 
