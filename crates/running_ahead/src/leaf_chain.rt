@@ -72,14 +72,17 @@ pub(crate) fn record_chain<V: View>(
         Ok(own) => own,
         Err(kit) => return Ok((0, kit)),
     };
+    let iterations = Iterations {
+        top: &machine.top,
+        code,
+        stretch,
+    };
     let recorded = record_each(
         &mut own,
         &mut machine.layer,
         &mut machine.tally,
-        &machine.top,
         setting,
-        code,
-        stretch,
+        iterations,
         &mut machine.spares.child,
         &mut machine.numbers,
     );
@@ -94,40 +97,48 @@ pub(crate) fn record_chain<V: View>(
     }
 }
 
-/// The same in that layer, in which nothing was noted yet, for the loop's instance on top: how many were recorded. Where memory is refused
-/// when it becomes a record, the loop's layer has other values.
+/// A stretch of a loop's iterations, and the loop's instance, which is on top.
+#[derive(Clone, Copy)]
+struct Iterations<'a> {
+    top: &'a Activation,
+    code: LoopCode<'a>,
+    stretch: Stretch,
+}
+
+/// The same in that layer, in which nothing was noted yet: how many were recorded. Where memory is refused when it becomes a record, the
+/// loop's layer has other values.
 #[inline(always)]
 fn record_each<V: View>(
     own: &mut Layer<V>,
     layer: &mut Layer<V>,
     tally: &mut Tally,
-    top: &Activation,
     setting: Setting<'_>,
-    code: LoopCode<'_>,
-    stretch: Stretch,
+    iterations: Iterations<'_>,
     child: &mut Activation,
     numbers: &mut Vec<i64>,
 ) -> Result<u32, AllocError>
-    requires fits { ShareFits stretch.site stretch.share }
-    requires some { stretch.most ≤ stretch.share.count }
-    requires found { loop_of code ≡ loop_at setting.program.now.codes top.now.procedure stretch.site }
-    requires memo { memo_of setting.program.now.codes code.callee ≡ true }
-    requires deep { (top.now.left == 0) ≡ false }
-    requires counted { IsCounted top.now.slots code.variable (map plain code.arguments.now) }
+    requires fits { ShareFits iterations.stretch.site iterations.stretch.share }
+    requires some { iterations.stretch.most ≤ iterations.stretch.share.count }
+    requires found { loop_of iterations.code ≡ loop_at setting.program.now.codes iterations.top.now.procedure iterations.stretch.site }
+    requires memo { memo_of setting.program.now.codes iterations.code.callee ≡ true }
+    requires deep { (iterations.top.now.left == 0) ≡ false }
+    requires counted { IsCounted iterations.top.now.slots iterations.code.variable (map plain iterations.code.arguments.now) }
     requires blank { own.old ≡ blank true setting.program.now.kinds (length setting.program.now.codes) }
     requires kinds { layer.old.kinds ≡ setting.program.now.kinds }
     requires monoids { All IsMonoid setting.program.now.kinds }
-    ensures records { IfOk result (λ done. (xs : List ℤ) → AreRecorded (lent setting.entry) stretch.site
-        top.now.procedure top.now.slots top.now.left stretch.share.first (gathered_by layer.old tally.old xs) done
-        (gathered_by layer.new tally.new (arguments_then done stretch.site stretch.share xs))) }
+    ensures records { IfOk result (λ done. (xs : List ℤ) → AreRecorded (lent setting.entry) iterations.entry.stretch.site
+        iterations.entry.top.now.procedure iterations.entry.top.now.slots iterations.entry.top.now.left
+        iterations.entry.stretch.share.first (gathered_by layer.old tally.old xs) done
+        (gathered_by layer.new tally.new (arguments_then done iterations.entry.stretch.site iterations.entry.stretch.share xs))) }
     ensures opened { OnOk result (tally.new.opened ≡ tally.old.opened) }
-    ensures some { IfOk result (λ done. done ≤ stretch.most) }
+    ensures some { IfOk result (λ done. done ≤ iterations.entry.stretch.most) }
     ensures left_open { OnErr result (length tally.new.opened ≡ suc (length tally.old.opened)) }
     ensures kinds { layer.new.kinds ≡ layer.old.kinds }
     ensures own_kinds { own.new.kinds ≡ setting.entry.program.now.kinds }
     ensures values { HaveValues setting.entry.program.now.kinds tally.old.made
         → HaveValues setting.entry.program.now.kinds tally.new.made }
 {
+    let Iterations { top, code, stretch } = iterations;
     let callee = code.callee;
     let size = setting.program.slots(callee);
     let left = top.left() - 1;

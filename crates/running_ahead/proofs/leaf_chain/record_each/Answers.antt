@@ -14,10 +14,10 @@ loop-done-init g c = record { records = λ xs. none; opened = refl; blank = c.re
 pub returns-then-is_err-clause-records : goal.returns-then-is_err-clause-records
 returns-then-is_err-clause-records g c xs =
     let S = lent c.args.setting in
-    let x = c.args.stretch in
-    let j : PlainLoop = loop_of c.args.code in
+    let x = c.args.iterations.stretch in
+    let j : PlainLoop = loop_of c.args.iterations.code in
     let d = c.loop-done.done in
-    let top = c.args.top.now in
+    let top = c.args.iterations.top.now in
     let is_done : c.in-Ok-true.field-0 ≡ true = search rules in
     let n = to_z w64 (of_z w64 c.number_of.result) in
     let share : c.behind.result ≡ behind d x.share = c.behind.ensures.rest in
@@ -40,10 +40,10 @@ returns-in-Ok-false-clause-values g c h = c.record_in.ensures.values (c.loop-don
 pub loop-done-preserved : goal.loop-done-preserved
 loop-done-preserved g c =
     let S = lent c.args.setting in
-    let x = c.args.stretch in
-    let j : PlainLoop = loop_of c.args.code in
+    let x = c.args.iterations.stretch in
+    let j : PlainLoop = loop_of c.args.iterations.code in
     let d = c.loop-done.done in
-    let top = c.args.top.now in
+    let top = c.args.iterations.top.now in
     let is_done : c.in-Ok-true.field-0 ≡ true = search rules in
     let n = to_z w64 (of_z w64 c.number_of.result) in
     let share : c.behind.result ≡ behind d x.share = c.behind.ensures.rest in
