@@ -9,6 +9,7 @@ ghost use Rattle.strand_moves.specs.Joins.{IsDone, with_worths};
 use crate::strand::Strand;
 use std::alloc::AllocError;
 use strand_moves::joining;
+use strand_moves::lists::WorkLists;
 use view_pool::{Kit, View};
 
 impl<V: View> Strand<V> {
@@ -56,13 +57,15 @@ impl<V: View> Strand<V> {
         joining::join_there(&mut self.machine, &mut right.machine)
     }
 
-    /// The kit of a strand with one layer that is let go. This strand keeps the lists of its topmost instance.
-    pub fn let_go(&mut self, over: Strand<V>) -> Kit<V>
+    /// The kit of a strand with one layer that is let go. This strand keeps the lists of its topmost instance, and the layer's are put to
+    /// the others.
+    #[inline(always)]
+    pub fn let_go(&mut self, over: Strand<V>, lists: &mut WorkLists) -> Kit<V>
         ensures same { self.new ≡ self.old }
         ensures kit { result ≡ over.layer.kinds }
     {
         let Strand { machine } = over;
-        joining::let_go(&mut self.machine, machine)
+        joining::let_go(&mut self.machine, machine, lists)
     }
 
     /// The kit of a strand with one layer that is let go. It takes no memory.

@@ -11,6 +11,7 @@ use crate::strand::Strand;
 use linked_program::checked::Checked;
 use positions::phase::Phase;
 use std::alloc::{AllocError, Global};
+use strand_moves::lists::WorkLists;
 use strand_moves::moves;
 use strand_moves::moves::{call_child, go_on_with, put_back, take_out, updates_next};
 use strand_moves::task::Task;
@@ -42,13 +43,15 @@ impl<V: View> Strand<V> {
         }
     }
 
-    /// The strand of a stolen continuation, which begins behind the spawned child. Want of memory is the only error; it hands
-    /// the continuation and the kit back.
+    /// The strand of a stolen continuation, which begins behind the spawned child, with lists of those that are there. Want of memory is
+    /// the only error; it hands the continuation and the kit back.
+    #[inline(always)]
     pub fn stolen(
         alloc: Global,
         program: &Checked,
         task: Task,
         kit: Kit<V>,
+        lists: &mut WorkLists,
     ) -> Result<Strand<V>, (AllocError, Task, Kit<V>)>
         requires kinds { kit ≡ program.now.kinds }
         ensures stolen { IfOk result (λ strand. strand ≡ stolen program.now.codes kit task) }
@@ -60,7 +63,7 @@ impl<V: View> Strand<V> {
     {
         // What the program's type keeps: so the strand is the one that a theft gives by its tree.
         program.linked();
-        match moves::stolen(alloc, program, task, kit) {
+        match moves::stolen(alloc, program, task, kit, lists) {
             Ok(machine) => Ok(Strand { machine }),
             Err(refused) => Err(refused),
         }

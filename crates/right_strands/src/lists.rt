@@ -7,12 +7,13 @@ use std::alloc::Global;
 use strand_moves::lists::WorkLists;
 use view_pool::View;
 
-/// Lists that hold nothing of a strand. A worker takes them along from one strand to the next, so that this one needs no new ones. New
-/// ones have no room for anything yet.
+/// Lists that hold nothing of a strand. A worker takes them along from one stolen strand to the next, so that this one needs no new ones:
+/// what such a strand has itself is let go where it is folded. Others keep their own. New ones have no room for anything yet.
 #[derive(Drop)]
 pub struct Lists {
-    lists: WorkLists,
+    pub(crate) lists: WorkLists,
     are_new: bool,
+    serve: bool,
 }
 
 impl Lists {
@@ -21,25 +22,33 @@ impl Lists {
         Lists {
             lists: WorkLists::new(alloc),
             are_new: true,
+            serve: false,
         }
+    }
+
+    /// Whether the next strand is one that takes them.
+    pub fn serve(&mut self, is_stolen: bool) {
+        self.serve = is_stolen;
     }
 }
 
 impl<J: Run, V: View> RightStrand<J, V> {
-    /// Goes on with these lists, unless they are new: then its own have more room. It takes no memory.
+    /// Goes on with these lists, where they serve it and aren't new: then its own have more room. It takes no memory.
     pub fn take_lists(&mut self, lists: &mut Lists)
         ensures same { self.new ≡ self.old }
     {
-        if !lists.are_new {
+        if lists.serve && !lists.are_new {
             self.strand.exchange_lists(&mut lists.lists);
         }
     }
 
-    /// Leaves its lists there, for the next strand. It takes no memory.
+    /// Leaves its lists there, for the next strand, where they serve it. It takes no memory.
     pub fn leave_lists(&mut self, lists: &mut Lists)
         ensures same { self.new ≡ self.old }
     {
-        self.strand.exchange_lists(&mut lists.lists);
-        lists.are_new = false;
+        if lists.serve {
+            self.strand.exchange_lists(&mut lists.lists);
+            lists.are_new = false;
+        }
     }
 }

@@ -4,6 +4,7 @@ ghost use Rattle.positions.specs.Moves.{joined};
 ghost use Rattle.right_strands.specs.Pairs.{IsStill, is_over, is_waiting, frees, may_pair};
 
 use crate::laid::{LaidState, Piece};
+use crate::lists::Lists;
 use crate::run::{Run, Scene};
 use crate::strand::RightStrand;
 use positions::start::Start;
@@ -83,11 +84,12 @@ impl<J: Run, V: View> Pair<J, V> {
         }
     }
 
-    /// The right strand of both, and the kit of the right one. Where memory is refused the pair is handed back, of the same two
-    /// strands, but for reducers' values that have moved from the right one to the left.
+    /// The right strand of both, and the kit of the right one, which puts lists to those that are there. Where memory is refused the pair is
+    /// handed back, of the same two strands, but for reducers' values that have moved from the right one to the left.
     pub fn join(
         self,
         scene: &Scene<'_, J>,
+        lists: &mut Lists,
     ) -> Result<(Box<RightStrand<J, V>>, Kit<V>), (AllocError, Pair<J, V>)>
         ensures joined { IfOk result (λ r. r.0.value
             ≡ record { strand = joined self.left self.right; failed = false }) }
@@ -102,7 +104,7 @@ impl<J: Run, V: View> Pair<J, V> {
         } = self;
         match left.join(scene, start, &mut *right) {
             Ok(()) => {
-                let kit = left.let_go(Box::into_inner(right));
+                let kit = left.let_go(Box::into_inner(right), lists);
                 Ok((left, kit))
             }
             Err(error) => Err((error, Pair { left, right, start })),

@@ -13,6 +13,7 @@ ghost use Rattle.running_ahead.specs.Stepped.{IsStepped};
 ghost use Rattle.right_strands.specs.Rightness.{FitsHere, IsRightStrand, WasDetached};
 ghost use Rattle.right_strands.specs.Pairs.{IsPairFrom, IsStill};
 
+use crate::lists::Lists;
 use crate::run::{Run, Scene};
 use crate::task::RightTask;
 use frames::strand::Strand;
@@ -66,12 +67,15 @@ impl<J: Run, V: View> RightStrand<J, V> {
         }
     }
 
-    /// The strand of a stolen continuation. Want of memory is the only error; it hands the continuation and the kit back.
+    /// The strand of a stolen continuation, with lists of those that are there. Want of memory is the only error; it hands the continuation
+    /// and the kit back.
+    #[inline(always)]
     pub fn stolen(
         alloc: Global,
         scene: &Scene<'_, J>,
         task: RightTask<J>,
         kit: Kit<V>,
+        lists: &mut Lists,
     ) -> Result<RightStrand<J, V>, (AllocError, RightTask<J>, Kit<V>)>
         requires kit { kit ≡ J.setting.kinds }
         ensures stolen { IfOk result (λ s. s.strand ≡ stolen J.setting.codes kit task.task) }
@@ -81,7 +85,7 @@ impl<J: Run, V: View> RightStrand<J, V> {
     {
         let RightTask { task, since, of: _ } = task;
         let start = behind(task.place());
-        match Strand::stolen(alloc, scene.program, task, kit) {
+        match Strand::stolen(alloc, scene.program, task, kit, &mut lists.lists) {
             Ok(strand) => Ok(RightStrand {
                 strand,
                 start,
@@ -357,12 +361,13 @@ impl<J: Run, V: View> RightStrand<J, V> {
         }
     }
 
-    /// The kit of a strand that is let go, of which this one keeps some lists.
-    pub(crate) fn let_go(&mut self, over: RightStrand<J, V>) -> Kit<V>
+    /// The kit of a strand that is let go, of which this one keeps some lists, and others are put to those that are there.
+    #[inline(always)]
+    pub(crate) fn let_go(&mut self, over: RightStrand<J, V>, lists: &mut Lists) -> Kit<V>
         ensures same { self.new ≡ self.old }
         ensures kit { result ≡ J.setting.kinds }
     {
-        self.strand.let_go(over.into_strand())
+        self.strand.let_go(over.into_strand(), &mut lists.lists)
     }
 
     /// How many kits it has: one for each of its layers.

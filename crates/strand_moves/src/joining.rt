@@ -7,6 +7,7 @@ ghost use Rattle.positions.specs.Moves.{joined, joined_broken, joined_ended, set
 ghost use Rattle.positions.specs.Tallies.{no_tally};
 ghost use Rattle.strand_moves.specs.Joins.{IsDone, with_worths};
 
+use crate::lists::WorkLists;
 use layers::tally::Tally;
 use positions::phase::{Fault, Phase};
 use positions::start::Start;
@@ -52,7 +53,7 @@ pub fn join<V: View>(
 {
     let mut right = right;
     match take_up(machine, &mut right) {
-        Ok(()) => Ok(let_go(machine, right)),
+        Ok(()) => Ok(close(right)),
         Err(error) => Err((error, right)),
     }
 }
@@ -107,8 +108,10 @@ pub fn close<V: View>(machine: Machine<V>) -> Kit<V>
     machine.layer.close()
 }
 
-/// The kit of a strand with one layer that is let go. This strand keeps the lists of its topmost instance.
-pub fn let_go<V: View>(machine: &mut Machine<V>, over: Machine<V>) -> Kit<V>
+/// The kit of a strand with one layer that is let go. This strand keeps the lists of its topmost instance and of its name, and the layer's
+/// lists are put to the others.
+#[inline(always)]
+pub fn let_go<V: View>(machine: &mut Machine<V>, over: Machine<V>, lists: &mut WorkLists) -> Kit<V>
     ensures same { machine.new ≡ machine.old }
     ensures kit { result ≡ over.layer.kinds }
 {
@@ -116,8 +119,8 @@ pub fn let_go<V: View>(machine: &mut Machine<V>, over: Machine<V>) -> Kit<V>
         start: _,
         layer,
         lower: _,
-        path: _,
-        place,
+        path,
+        place: _,
         top,
         below,
         phase: _,
@@ -127,8 +130,8 @@ pub fn let_go<V: View>(machine: &mut Machine<V>, over: Machine<V>) -> Kit<V>
         spares: _,
         lists: _,
     } = over;
-    machine.spares.keep_child(top, below, place);
-    layer.close()
+    machine.spares.keep_child(top, below, path);
+    layer.close_in(&mut lists.lists)
 }
 
 /// Puts the right neighbour behind this strand, which takes what it goes on with; the rest is to be let go. Where memory is refused

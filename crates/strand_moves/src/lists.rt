@@ -14,7 +14,7 @@ use view_pool::View;
 pub struct WorkLists {
     numbers: Vec<i64>,
     spares: Spares,
-    lists: SpareLists,
+    pub(crate) lists: SpareLists,
 }
 
 impl WorkLists {

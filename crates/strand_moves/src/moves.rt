@@ -3,6 +3,7 @@ ghost use Rattle.std.specs.Prelude.{◌≡◌, ◌∷◌, [], IfOk, IfErr};
 ghost use Rattle.evaluation.specs.Slots.{slots_for};
 ghost use Rattle.positions.specs.Moves.{first_strand, stolen, stolen_with, inlined, detached, attached, returned_of, resumed, at_update};
 
+use crate::lists::WorkLists;
 use crate::task::Task;
 use activations::spares::Spares;
 use evaluation::slot::Slot;
@@ -66,19 +67,21 @@ pub fn first<V: View>(
     })
 }
 
-/// The strand of a stolen continuation, whose layer keeps readings where a memo instance may be around it; refused for want of memory
-/// alone, and then the continuation and the kit are handed back.
+/// The strand of a stolen continuation, whose layer keeps readings where a memo instance may be around it, and lies in lists of those that
+/// are there; refused for want of memory alone, and then the continuation and the kit are handed back.
+#[inline(always)]
 pub fn stolen<V: View>(
     alloc: Global,
     program: &Checked,
     task: Task,
     kit: Kit<V>,
+    lists: &mut WorkLists,
 ) -> Result<Machine<V>, (AllocError, Task, Kit<V>)>
     ensures stolen { IfOk result (λ machine. machine ≡ stolen program.now.codes kit task) }
     ensures task_back { IfErr result (λ e. e.1 ≡ task) }
     ensures kit_back { IfErr result (λ e. e.2 ≡ kit) }
 {
-    let layer = match thief_layer(alloc, program, kit) {
+    let layer = match thief_layer(alloc, program, kit, &mut lists.lists) {
         Ok(layer) => layer,
         Err((error, kit)) => return Err((error, task, kit)),
     };

@@ -9,6 +9,7 @@ ghost use Rattle.layers.specs.Folds.{BothHaveValues, IsSameButWorths, HasSamePro
 use crate::beginning::begin;
 use crate::nesting::may_nest;
 use layers::layer::Layer;
+use layers::spares::SpareLists;
 use layers::tally::Tally;
 use linked_program::checked::Checked;
 use std::alloc::{AllocError, Global};
@@ -36,18 +37,24 @@ pub fn first_layer<V: View>(
     Ok(layer)
 }
 
-/// The layer of a stolen continuation's strand, which keeps readings where a memo instance may be around it, without initial values; refused for
-/// want of memory alone, and then the kit is handed back.
+/// The layer of a stolen continuation's strand, which keeps readings where a memo instance may be around it, without initial values, in spare
+/// lists where there are some; refused for want of memory alone, and then the kit is handed back.
 pub fn thief_layer<V: View>(
     alloc: Global,
     program: &Checked,
     kit: Kit<V>,
+    spares: &mut SpareLists,
 ) -> Result<Layer<V>, (AllocError, Kit<V>)>
     ensures blank { IfOk result (λ layer. layer ≡ blank (may_nest program.now.codes) kit (length program.now.codes)) }
     ensures handed_back { IfErr result (λ e. e.1 ≡ kit) }
 {
     let keeps = may_nest(program.codes());
-    Layer::open(alloc, kit, keeps, program.codes().len())
+    let procedures = program.codes().len();
+    let (notes, flags, used) = match spares.take(alloc, procedures) {
+        Ok(lists) => lists,
+        Err(error) => return Err((error, kit)),
+    };
+    Ok(Layer::in_lists(alloc, kit, keeps, procedures, notes, flags, used))
 }
 
 /// Puts the right strand's tally behind this one, and its one layer behind the uppermost of this one's; the lower ones stay. Where memory is

@@ -2,6 +2,8 @@
 use denote.RattleType.{RattleType}
 use denote.Param.Send.{IsSend, sendable}
 use Rattle.std.proofs.Crossing.{crosses}
+use Rattle.activations.proofs.Crosses.{spares_send}
+use Rattle.layers.proofs.Crosses.{lists_send}
 use Rattle.view_pool.specs.declared.view.View as View
 use Rattle.right_strands.specs.declared.run.Run as Run
 use Rattle.right_strands.proofs.Crosses.{piece_send, pair_send}
@@ -12,4 +14,6 @@ module _ (J V : RattleType) (run : Run.Ghosts J.Denot) (view : View.Ghosts V.Den
   book_send =
       let one = piece_send J V run view j v in
       let two = pair_send J V run view j v in
-      search (sendable, crosses) depth 40
+      let spares = spares_send in
+      let lists = lists_send in
+      search (sendable, crosses) depth 40 fits 4000

@@ -7,9 +7,11 @@ use instance_records::record::Record;
 use numbered_runs::step::{BookStep, Place, StrandLine};
 use positions::answer::RunAnswer;
 use right_strands::laid::Piece;
+use right_strands::lists::Lists;
 use right_strands::pair::Pair;
 use right_strands::run::{Run, Scene};
 use right_strands::strand::RightStrand;
+use right_strands::task::RightTask;
 use std::alloc::{AllocError, Global};
 use std::marker::Model;
 use strand_list::chronicle::Chronicle;
@@ -18,11 +20,12 @@ use strand_list::lines::held_place;
 use view_pool::{Kit, KitSource, View};
 
 /// The strands of the run J, the steps that made their list, and the strands that were laid down, one a line in the lines' order.
-/// The history is legal, and its replay is the list that stands.
+/// The history is legal, and its replay is the list that stands. Lists of strands that were folded are kept for those that are stolen.
 #[derive(Drop)]
 pub struct Book<J: Run, V: View = Box<dyn View>> {
     chronicle: Chronicle,
     laid: Vec<Laid<Piece<J, V>, Pair<J, V>>>,
+    lists: Lists,
 }
 
 impl<J: Run, V: View> Model for Book<J, V> {
@@ -43,6 +46,7 @@ impl<J: Run, V: View> Book<J, V> {
     ghost use Rattle.meaning.specs.Strands.{Split, Fold, stepped, replayed};
     ghost use Rattle.record_theory.specs.Named.{HaveValues};
     ghost use Rattle.numbered_runs.specs.Named.{history as steps_of};
+    ghost use Rattle.positions.specs.Moves.{stolen};
     ghost use Rattle.right_strands.specs.Laid.{PlainPiece, AnswersElision, IsGiven, HasRecorded};
     ghost use Rattle.sync_fold.specs.declared.laid.Laid.TheVariants.{Whole};
     ghost use Rattle.strand_list.specs.Pages.{shown, position, held_place};
@@ -65,6 +69,7 @@ impl<J: Run, V: View> Book<J, V> {
         Ok(Book {
             chronicle: Chronicle::start(alloc)?,
             laid,
+            lists: Lists::new(alloc),
         })
     }
 
@@ -218,6 +223,26 @@ impl<J: Run, V: View> Book<J, V> {
                 Err(error)
             }
         }
+    }
+
+    /// The strand of a stolen continuation, with lists of strands that were folded. Want of memory is the only error; it hands the
+    /// continuation and the kit back.
+    #[inline(always)]
+    pub fn begin_stolen(
+        &mut self,
+        alloc: Global,
+        scene: &Scene<'_, J>,
+        task: RightTask<J>,
+        kit: Kit<V>,
+    ) -> Result<RightStrand<J, V>, (AllocError, RightTask<J>, Kit<V>)>
+        requires kit { kit ≡ J.setting.kinds }
+        ensures same { self.new ≡ self.old }
+        ensures stolen { IfOk result (λ s. s.strand ≡ stolen J.setting.codes kit task.task) }
+        ensures going { IfOk result (λ s. s.failed ≡ false) }
+        ensures task_back { IfErr result (λ e. e.1 ≡ task) }
+        ensures kit_back { IfErr result (λ e. e.2 ≡ kit) }
+    {
+        RightStrand::stolen(alloc, scene, task, kit, &mut self.lists)
     }
 
     /// The strand that a worker holds is laid down; it is handed back with a refusal.
@@ -384,7 +409,7 @@ impl<J: Run, V: View> Book<J, V> {
             Ok(step) => step,
             Err(error) => return Err(error),
         };
-        match fold_kept(scene, &mut self.laid, k) {
+        match fold_kept(scene, &mut self.laid, k, &mut self.lists) {
             Ok(joined) => {
                 self.chronicle.fold(step);
                 Ok(joined)
@@ -510,7 +535,11 @@ impl<J: Run, V: View> Book<J, V> {
             → K.free kits.new ≡ kits_laid self.laid + K.free kits.old }
         ensures total { K.total kits.new ≡ K.total kits.old }
     {
-        let Book { chronicle, laid } = self;
+        let Book {
+            chronicle,
+            laid,
+            ..
+        } = self;
         let (answer, records) = into_alone(laid).end(scene, alloc, kits);
         (answer, records, chronicle.into_history())
     }

@@ -7,6 +7,7 @@ ghost use Rattle.sync_fold.specs.Books.{BeginAsOne, BeginWithPair, IsHalved, Pla
 use crate::kept::{keep_pair, take_behind, take_two};
 use crate::laid::{LaidOf, join_up, may_touch};
 use numbered_runs::step::{Place, StrandLine};
+use right_strands::lists::Lists;
 use right_strands::run::{Run, Scene};
 use right_strands::strand::RightStrand;
 use std::alloc::{AllocError, Global};
@@ -59,6 +60,7 @@ pub(crate) fn fold_kept<J: Run, V: View>(
     scene: &Scene<'_, J>,
     laid: &mut Vec<LaidOf<J, V>>,
     k: usize,
+    lists: &mut Lists,
 ) -> Result<(Box<RightStrand<J, V>>, Kit<V>), AllocError>
     requires within { k + 1 < length laid.old.items }
     requires pair { BeginWithPair (drop k laid.old.items) }
@@ -70,7 +72,7 @@ pub(crate) fn fold_kept<J: Run, V: View>(
     ensures halved { OnErr result (IsHalved k laid.old.items laid.new.items) }
 {
     let (left, right) = take_two(laid, k);
-    match join_up(scene, left, right) {
+    match join_up(scene, left, right, lists) {
         Ok(joined) => {
             take_behind(laid, k);
             Ok(joined)

@@ -5,6 +5,7 @@ ghost use Rattle.sync_fold.specs.Counts.{HaveOneMore};
 ghost use Rattle.sync_fold.specs.declared.laid.Laid.TheVariants.{Whole};
 
 use right_strands::laid::{LaidState, Piece};
+use right_strands::lists::Lists;
 use right_strands::pair::Pair;
 use right_strands::run::{Run, Scene};
 use right_strands::strand::RightStrand;
@@ -144,12 +145,13 @@ fn pair_up<J: Run, V: View>(
     }
 }
 
-/// The strand of two neighbours that may become one, and the kit of the right one; for want of memory both are a pair from then
-/// on, laid down as before.
+/// The strand of two neighbours that may become one, and the kit of the right one, which puts lists to those that are there; for want of
+/// memory both are a pair from then on, laid down as before.
 pub(crate) fn join_up<J: Run, V: View>(
     scene: &Scene<'_, J>,
     left: LaidOf<J, V>,
     right: LaidOf<J, V>,
+    lists: &mut Lists,
 ) -> Result<(Box<RightStrand<J, V>>, Kit<V>), (Pair<J, V>, LaidState, LaidState)>
     requires pair { ArePair left right }
     ensures joined { IfOk result (λ r. AreOne left right r.0.value.strand) }
@@ -161,7 +163,7 @@ pub(crate) fn join_up<J: Run, V: View>(
     ensures waiting { IfErr result (λ e. LiesAs right e.2) }
 {
     let (pair, over, waiting) = pair_up(left, right);
-    match pair.join(scene) {
+    match pair.join(scene, lists) {
         Ok(joined) => Ok(joined),
         Err((_, pair)) => Err((pair, over, waiting)),
     }

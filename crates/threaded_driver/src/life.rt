@@ -96,8 +96,15 @@ where
                 return seat;
             }
             Found::Nothing => listener.wait(rt),
-            Found::Own(held) | Found::Folded(held) | Found::Stolen(held) => {
+            Found::Own(held) | Found::Folded(held) => {
                 listener.leave();
+                lists.serve(false);
+                floor.run_strand(rt, number, &mut seat, held, &mut lists, gate);
+                listener.listen();
+            }
+            Found::Stolen(held) => {
+                listener.leave();
+                lists.serve(true);
                 floor.run_strand(rt, number, &mut seat, held, &mut lists, gate);
                 listener.listen();
             }

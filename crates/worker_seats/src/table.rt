@@ -219,7 +219,7 @@ impl<J: Run + Stocked + Send, V: View> Table<J, V> {
         ensures right { IfErr result (λ f. is_right f ≡ true) }
         ensures near { IfErr result (λ f. is_far f ≡ false) }
     {
-        match RightStrand::stolen(alloc, scene, task, kit) {
+        match self.book.begin_stolen(alloc, scene, task, kit) {
             Ok(strand) => match Box::new(alloc, strand) {
                 Ok(strand) => Ok(Some(self.hold(strand))),
                 Err(_) => Err(Failure::NoMemory),

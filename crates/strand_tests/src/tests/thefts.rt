@@ -11,6 +11,7 @@ use positions::phase::{Paused, Phase};
 use rerun_records::records::Records;
 use std::alloc::Global;
 use std::process::Abort;
+use strand_moves::lists::WorkLists;
 use test_kit::beginnings::{checked, kits, tables};
 use test_kit::texts::SALES;
 use view_pool::{Kit, PlainView, Pool};
@@ -54,7 +55,8 @@ fn steal(
 {
     let task = parent(rt, alloc, victim);
     let kit = taken(rt, program, pool);
-    match Strand::stolen(alloc, program, task, kit) {
+    let mut lists = WorkLists::new(alloc);
+    match Strand::stolen(alloc, program, task, kit, &mut lists) {
         Ok(thief) => thief,
         Err(_) => panic!(rt; "memory"),
     }
