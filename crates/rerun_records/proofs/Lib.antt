@@ -11,3 +11,4 @@ pub mod Instances
 pub mod Moving
 pub mod Crosses
 pub mod Settled
+pub mod HeldCells

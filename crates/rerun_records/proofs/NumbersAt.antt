@@ -4,10 +4,13 @@ use Rattle.std.specs.Prelude.{slice_set, slice_get}
 use Rattle.meaning.specs.Every.{every}
 use Rattle.evaluation.specs.declared.note.Note.{Note}
 use Rattle.record_theory.specs.Record.{PlainRecord}
-use Rattle.record_theory.specs.InStep.{is_apart}
+use Rattle.record_theory.specs.InStep.{is_apart, IsInStep}
+use Rattle.meaning.specs.Tables.{Tables}
+use Rattle.rerun_records.specs.Line.{IsKnown}
+use Rattle.record_theory.proofs.InStep.{fresh_agrees, counted_at}
 use Rattle.rerun_records.specs.Covers.{AreApart}
 use Rattle.record_numbers.specs.Stale.{most_number}
-use Rattle.record_theory.specs.Numbers.{number_then, numbers_then}
+use Rattle.record_theory.specs.Numbers.{number_then, numbers_then, numbered_by, with_numbers}
 use Rattle.record_theory.proofs.NumbersThen.{untouched_stays}
 
 module _ (lost won : List Note) where
@@ -68,3 +71,29 @@ pub told_apart : (change : ℕ × ℤ) (lost won : List Note) (first end : ℕ) 
 told_apart change lost won first end ns rs rest small l apart =
     sym (told_fewer lost won first end ns rs l
     (λ p n r a b e f. untouched_stays change lost won r.reads n rest (apart p r a b f) (subst (λ m. m ≤ most_number) (got ns p n e) (small p))))
+
+-- ---- what is known of the record at a place
+
+-- its number stands beside it
+numbered_at : (ns : List ℕ) (rs : List PlainRecord) (k : ℕ) (r : PlainRecord) → k < length ns → k < length rs → r ≡ get_or rs k r
+    → slice_get (with_numbers ns rs) k ≡ Some (numbered_by (get_or ns k 0) r)
+numbered_at [] rs k r l m e = absurd (omega (arith, l))
+numbered_at (n ∷ ns) [] k r l m e = absurd (omega (arith, m))
+numbered_at (n ∷ ns) (x ∷ rs) zero r l m e = ap (λ (y : PlainRecord). Some (numbered_by n y)) (sym e)
+numbered_at (n ∷ ns) (x ∷ rs) (suc k) r l m e = numbered_at ns rs k r (omega (arith, l)) (omega (arith, m)) e
+
+pub known_at : (tables : Tables) (ns : List ℕ) (rs : List PlainRecord) (k n : ℕ) (r : PlainRecord) → k < length ns → k < length rs → r ≡ get_or rs k r → n ≡ get_or ns k 0
+    → IsInStep tables (with_numbers ns rs) → IsKnown tables n r.reads
+known_at tables ns rs k n r l m e f h =
+    subst (λ (x : ℕ). IsKnown tables x r.reads) (sym f)
+    (λ none. fresh_agrees tables (numbered_by (get_or ns k 0) r) (counted_at tables (with_numbers ns rs) k (numbered_by (get_or ns k 0) r) h (numbered_at ns rs k r l m e)) none)
+
+-- another place's number is as it was
+pub same_but : (ns ms : List ℕ) (k v p : ℕ) → p < k → get_or ns p 0 ≡ get_or ms p 0 → get_or (slice_set ns k v) p 0 ≡ get_or ms p 0
+same_but ns ms k v p l e = other ns k p l ∙ e
+  where
+    other : (xs : List ℕ) (j q : ℕ) → q < j → get_or (slice_set xs j v) q 0 ≡ get_or xs q 0
+    other [] j q less = refl
+    other (x ∷ xs) zero q less = absurd (omega (arith, less))
+    other (x ∷ xs) (suc j) zero less = refl
+    other (x ∷ xs) (suc j) (suc q) less = other xs j q (omega (arith, less))

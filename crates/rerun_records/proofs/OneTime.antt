@@ -24,7 +24,7 @@ use Rattle.record_theory.proofs.Same.{integer_is, note_is}
 
 -- ---- what tables hold
 
-held : (o : Option ℤ) (v w : ℤ) → same_number o v ≡ true → same_number o w ≡ true → v ≡ w
+pub held : (o : Option ℤ) (v w : ℤ) → same_number o v ≡ true → same_number o w ≡ true → v ≡ w
 held None v w e f = absurd (true≢false (sym e))
 held (Some x) v w e f = sym (integer_is x v e) ∙ integer_is x w f
 
@@ -32,7 +32,7 @@ passes_as : (q : Note → Bool) (note x : Note) (ns : List Note) (b : Bool) → 
 passes_as q note x ns true s r f p = ap q (note_is note x s) ∙ p
 passes_as q note x ns false s r f p = f r
 
-read_passes : (q : Note → Bool) (ns : List Note) (note : Note) → every q ns ≡ true → is_read ns note ≡ true → q note ≡ true
+pub read_passes : (q : Note → Bool) (ns : List Note) (note : Note) → every q ns ≡ true → is_read ns note ≡ true → q note ≡ true
 read_passes q [] note e r = absurd (true≢false (sym r))
 read_passes q (x ∷ ns) note e r =
     passes_as q note x ns (same_note note x) refl r (read_passes q ns note (right_is (q x) (every q ns) e)) (left_is (q x) (every q ns) e)

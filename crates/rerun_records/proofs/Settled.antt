@@ -46,7 +46,7 @@ abbrev pub CountedTo : List Note → List Note → ℕ → ℕ → Type 0
 CountedTo cells notes i count =
     (reads : List Note) → HasNoSums reads → IsOfOneTime reads → AreReadIn cells reads → count + how_many same_note (drop i notes) reads ≡ how_many same_note notes reads
 
-one_counted : (b : Bool) (count one rest : ℕ) → one ≡ cond b 1 0 → count + one + rest ≡ count + cond b (suc rest) rest
+pub one_counted : (b : Bool) (count one rest : ℕ) → one ≡ cond b 1 0 → count + one + rest ≡ count + cond b (suc rest) rest
 one_counted true count one rest e = omega (arith, e)
 one_counted false count one rest e = omega (arith, e)
 

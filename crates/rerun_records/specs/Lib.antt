@@ -4,3 +4,4 @@ pub mod Blocks
 pub mod Covers
 pub mod Skips
 pub mod Settled
+pub mod Line

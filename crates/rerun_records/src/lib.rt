@@ -8,6 +8,7 @@ mod covers;
 mod due;
 mod keeping;
 mod level;
+mod line;
 mod listing;
 pub mod records;
 pub mod series;

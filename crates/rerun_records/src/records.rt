@@ -13,6 +13,8 @@ ghost use Rattle.record_theory.specs.Commits.{put_records, AreSingle};
 ghost use Rattle.rerun_records.specs.Put.{ArePut};
 ghost use Rattle.record_theory.specs.Named.{looked_up, FindsNamed, CommitsNamed, HaveValues};
 ghost use Rattle.rerun_records.specs.Blocks.{BlockFits, is_fresh_at};
+ghost use Rattle.meaning.specs.Tables.{Tables as PlainTables};
+ghost use Rattle.rerun_records.specs.Line.{AreBefore};
 ghost use Rattle.rerun_records.specs.Sums.{IsBatchFor};
 ghost use Rattle.monoid_laws.specs.declared.Kind.{Kind as PlainKind};
 
@@ -480,11 +482,13 @@ impl Records {
     }
 
     /// Tells the records that the row of the table of that number was changed, each given by its number: these readings the tables don't
-    /// hold any more, and those they hold again. It goes by the hulls that there are, passes over most of the records that haven't read
+    /// hold any more, and those they hold again. Before, the records were in step with the tables, which held the first of these readings
+    /// and not the second. It goes by the hulls that there are, passes over most of the records that haven't read
     /// the row, and takes no memory.
     pub fn tell(&mut self, change: &(usize, i64), lost: &[Note], won: &[Note])
         requires rest { every (λ n. not (is_apart (change.now ∷ []) n)) (lost.now ++ won.now) ≡ true }
-        ensures told { self.new ≡ map (told_by lost.now won.now) self.old }
+        ensures told { (before : PlainTables) → IsInStep before self.old → AreBefore before lost.now won.now
+            → self.new ≡ map (told_by lost.now won.now) self.old }
         ensures same { map as_made self.new ≡ map as_made self.old }
     {
         tell(

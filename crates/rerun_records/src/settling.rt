@@ -218,9 +218,9 @@ fn count_in(cells: &[Reading], notes: &[Note]) -> Option<u64>
     Some(count)
 }
 
-// One where it is so.
+/// One where it is so.
 #[inline(always)]
-fn one_if(is_so: bool) -> u64
+pub(crate) fn one_if(is_so: bool) -> u64
     ensures one { result ≡ cond is_so 1 0 }
     ensures few { result ≤ 1 }
 {

@@ -10,10 +10,14 @@ ghost use Rattle.rerun_records.specs.Covers.{AreApart, AreCovered};
 ghost use Rattle.record_theory.specs.Numbers.{number_then, numbers_then, with_numbers};
 ghost use Rattle.record_theory.specs.OneTime.{AreOfOneTime, IsOfOneTime};
 ghost use Rattle.record_theory.specs.Same.{is_read, same_note};
+ghost use Rattle.record_theory.specs.InStep.{IsInStep};
+ghost use Rattle.meaning.specs.Tables.{Tables as PlainTables};
+ghost use Rattle.rerun_records.specs.Line.{AreBefore, IsKnown, IsLine};
 ghost use Rattle.rerun_records.specs.Settled.{AreReadIn, Settles};
 
 use crate::blocks::Blocks;
 use crate::covers::Covers;
+use crate::line::{Line, line_of};
 use crate::settling::{Settled, counts_by, settled_by};
 use crate::skips::Cursor;
 use evaluation::note::Note;
@@ -40,7 +44,8 @@ pub(crate) fn tell(
     requires fit { BlocksFit (with_numbers numbers.old list.now) blocks.old }
     requires covered { AreCovered list.now covers.now }
     requires once { AreOfOneTime list.now }
-    ensures told { numbers.new ≡ numbers_then lost.now won.now numbers.old list.now }
+    ensures told { (tables : PlainTables) → IsInStep tables (with_numbers numbers.old list.now)
+        → AreBefore tables lost.now won.now → numbers.new ≡ numbers_then lost.now won.now numbers.old list.now }
     ensures places { length numbers.new ≡ length list.now }
     ensures fit { BlocksFit (with_numbers numbers.new list.now) blocks.new }
 {
@@ -52,6 +57,7 @@ pub(crate) fn tell(
                 lost,
                 won,
                 is_of_cells: are_of_cells(lost) && are_of_cells(won),
+                line: line_of(change, lost),
             };
             tell_from(numbers, blocks, list, covers, place, &mut cursor, edit);
         }
@@ -59,13 +65,15 @@ pub(crate) fn tell(
     }
 }
 
-// A change of a row, with the readings that don't hold any more and those that hold again, and whether these are of cells and sums alone.
+// A change of a row, with the readings that don't hold any more and those that hold again, whether these are of cells and sums alone, and
+// the columns of those that don't hold any more.
 #[derive(Clone, Copy)]
 struct Edit<'a> {
     change: &'a (usize, i64),
     lost: &'a [Note],
     won: &'a [Note],
     is_of_cells: bool,
+    line: Option<Line>,
 }
 
 // Whether these are readings of cells and sums alone.
@@ -97,8 +105,11 @@ fn tell_from(
     requires fit { BlocksFit (with_numbers numbers.old list.now) blocks.old }
     requires covered { AreCovered list.now covers.now }
     requires once { AreOfOneTime list.now }
+    requires line { IfSome edit.line (λ l. IsLine edit.change.now l.first l.end l.count edit.lost.now) }
     requires apart { AreApart list.now edit.change.now (place + 1) (length list.now) }
-    ensures told { numbers.new ≡ numbers_then edit.entry.lost.now edit.entry.won.now numbers.old list.now }
+    ensures told { (tables : PlainTables) → IsInStep tables (with_numbers numbers.old list.now)
+        → AreBefore tables edit.entry.lost.now edit.entry.won.now
+        → numbers.new ≡ numbers_then edit.entry.lost.now edit.entry.won.now numbers.old list.now }
     ensures places { length numbers.new ≡ length list.now }
     ensures fit { BlocksFit (with_numbers numbers.new list.now) blocks.new }
 {
@@ -107,11 +118,11 @@ fn tell_from(
         settled: None,
     };
     let reads = list[place].reads();
-    let number = told_anew(numbers[place], reads, edit, &mut course);
+    let number = told_next(numbers[place], reads, &edit, &mut course);
     renumber(numbers, blocks, list, place, number);
     let mut end = place;
     while let Some(place) = covers.next_touched(list, end, edit.change, cursor) {
-        let number = told_by_way(numbers[place], list[place].reads(), edit, &mut course);
+        let number = told_next(numbers[place], list[place].reads(), &edit, &mut course);
         renumber(numbers, blocks, list, place, number);
         end = place;
     }
@@ -137,6 +148,57 @@ fn renumber(numbers: &mut [u32], blocks: &mut Blocks, list: &[Record], place: us
 struct Course<'a> {
     turns: u64,
     settled: Option<Settled<'a>>,
+}
+
+// The number that a record has then. Where nothing of what it has read is counted, and it is noted that it has read all cells of the changed
+// columns of the row, it has read each as it was, so nothing is looked for.
+#[inline(always)]
+fn told_next<'a>(number: u32, reads: &'a Readings, edit: &Edit<'_>, course: &mut Course<'a>) -> u32
+    requires rest { every (λ n. not (is_apart (edit.now.change.now ∷ []) n)) (edit.now.lost.now ++ edit.now.won.now) ≡ true }
+    requires once { IsOfOneTime reads.now }
+    requires settled { IfSome course.old.settled (λ s. Settles (map note_of s.cells.now) s.more edit.now.lost.now
+        × Settles (map note_of s.cells.now) s.fewer edit.now.won.now) }
+    requires line { IfSome edit.now.line (λ l. IsLine edit.now.change.now l.first l.end l.count edit.now.lost.now) }
+    ensures settled { IfSome course.new.settled (λ s. Settles (map note_of s.cells.now) s.more edit.now.lost.now
+        × Settles (map note_of s.cells.now) s.fewer edit.now.won.now) }
+    ensures told { (tables : PlainTables) → AreBefore tables edit.now.lost.now edit.now.won.now
+        → IsKnown tables number reads.now
+        → result ≡ number_then edit.now.lost.now edit.now.won.now number reads.now }
+{
+    match count_by_line(number, reads, edit) {
+        Some(count) => {
+            course.turns = behind_first(course.turns);
+            number_after(number, count, 0)
+        }
+        None => told_by_way(number, reads, *edit, course),
+    }
+}
+
+// How many of the readings that don't hold any more a record has read of which nothing is counted, where that is noted.
+#[inline(always)]
+fn count_by_line(number: u32, reads: &Readings, edit: &Edit<'_>) -> Option<u64>
+    requires line { IfSome edit.now.line (λ l. IsLine edit.now.change.now l.first l.end l.count edit.now.lost.now) }
+    ensures lost { IfSome result (λ count. (tables : PlainTables) → AreBefore tables edit.now.lost.now edit.now.won.now
+        → IsKnown tables number reads.now → how_many same_note edit.now.lost.now reads.now ≡ count) }
+    ensures won { IfSome result (λ count. (tables : PlainTables) → AreBefore tables edit.now.lost.now edit.now.won.now
+        → IsKnown tables number reads.now → how_many same_note edit.now.won.now reads.now ≡ 0) }
+    ensures few { IfSome result (λ count. count ≤ length edit.now.lost.now) }
+{
+    match edit.line {
+        Some(line) => {
+            if !is_fresh(number) {
+                return None;
+            }
+            if !reads.have_line(edit.change, line.first, line.end) {
+                return None;
+            }
+            if reads.may_have_sums() {
+                return None;
+            }
+            Some(line.count)
+        }
+        None => None,
+    }
 }
 
 // The number that a record has then. The one told before it was mostly of the instance around its own, so the way from there goes on from

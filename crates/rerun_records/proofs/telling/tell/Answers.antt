@@ -4,7 +4,7 @@ use Rattle.rerun_records.proofs.NumbersAt.{told_all, told_apart}
 use Rattle.rerun_records.proofs.telling.tell.Goals as goal
 
 pub returns-in-None-clause-told : goal.returns-in-None-clause-told
-returns-in-None-clause-told c =
+returns-in-None-clause-told c = λ tables step known.
     let numbers = c.args.numbers.now in
     let list = c.args.list.now in
     let small : (i : ℕ) → get_or numbers i 0 ≤ most_number = λ i. (let fits = c.type_inv.numbers i in search rules) in
