@@ -1,14 +1,20 @@
 -- What the edit of a row makes of records with their numbers.
-use Rattle.std.proofs.Common.{◌≡◌, ◌⊎◌, inl, inr, ℕ, ◌<◌, ℤ, true, not, List, [], ◌∷◌, ◌++◌, length, map, refl, sym, ap, ◌∙◌, subst, arith}
+use Rattle.std.proofs.Common.{◌≡◌, ◌⊎◌, inl, inr, ℕ, ◌<◌, ℤ, Bool, true, false, not, List, [], ◌∷◌, ◌++◌, length, map, refl, sym, ap, ◌∙◌, subst, arith}
+use Rattle.std.specs.Prelude.{◌||◌}
 use Rattle.std.proofs.lemmas.Bool.{and_from}
 use Rattle.meaning.specs.Tree.{Name}
 use Rattle.meaning.specs.Every.{every}
 use Rattle.meaning.specs.Tables.{Tables}
 use Rattle.evaluation.specs.declared.note.Note.{Note}
 use Rattle.record_theory.specs.Record.{PlainRecord, as_made}
+use Rattle.record_theory.specs.Counts.{is_among, has_lapsed}
 use Rattle.record_theory.specs.InStep.{is_apart, IsInStep, IsSameBut}
 use Rattle.record_theory.specs.Numbers.{told_by}
-use Rattle.record_theory.proofs.Members.{every_append}
+use Rattle.record_theory.specs.Same.{same_note}
+use Rattle.record_theory.specs.Validity.{note_agrees}
+use Rattle.rerun_records.specs.Line.{AreBefore}
+use Rattle.record_theory.proofs.Members.{left_is, right_is, both, every_append}
+use Rattle.record_theory.proofs.NumbersThen.{note_itself}
 use Rattle.record_index.specs.Befores.{PlainBefore, IsBefore, held_only, now_of, sums_from, HasRoomFor}
 use Rattle.record_index.specs.Indexed.{PlainIndexed, IsIndexed, IsNoted, HaveSameColumns, AreTold}
 use Rattle.record_index.proofs.Befores.{held_is, held_distinct, held_rests, same_but_back}
@@ -26,6 +32,31 @@ all_rest tables a change lost won t r l w =
     ∙ and_from (every (λ n. not (is_apart ((a.table, a.row) ∷ []) n)) lost) (every (λ n. not (is_apart ((a.table, a.row) ∷ []) n)) won)
     (subst (λ ns. every (λ n. not (is_apart ((a.table, a.row) ∷ []) n)) ns ≡ true) (sym l) (held_rests a (now_of tables a)))
     (subst (λ ns. every (λ n. not (is_apart ((a.table, a.row) ∷ []) n)) ns ≡ true) (sym w) (held_rests (now_of tables a) a))))
+
+-- ---- before the edit the tables held what holds no more, and nothing of what holds again
+
+on_right : (a b : Bool) → b ≡ true → a || b ≡ true
+on_right true b e = refl
+on_right false b e = e
+
+all_among : (p : Note → Bool) (xs : List Note) → ((n : Note) → is_among same_note xs n ≡ true → p n ≡ true) → every p xs ≡ true
+all_among p [] h = refl
+all_among p (x ∷ xs) h =
+    both (p x) (every p xs) (h x (ap (λ b. b || is_among same_note xs x) (note_itself x)))
+    (all_among p xs (λ n m. h n (on_right (same_note n x) (is_among same_note xs n) m)))
+
+before_edit : (before now : Tables) (a : PlainBefore) → IsBefore before a → IsBefore now (now_of now a) → IsSameBut a.table a.row before now
+    → AreBefore before (held_only a (now_of now a)) (held_only (now_of now a) a)
+before_edit before now a was is same =
+    let wide : length a.sums ≡ length (sums_from now a.table 0 (length a.sums)) = sym (length_sums now a.table 0 (length a.sums)) in
+    record {
+      all_held =
+          all_among (note_agrees before) (held_only a (now_of now a))
+          (λ n m. left_is (note_agrees before n) (not (note_agrees now n)) (sym (held_is a (now_of now a) before now was is refl refl wide same n) ∙ m));
+      none_held =
+          all_among (has_lapsed before) (held_only (now_of now a) a)
+          (λ n m. right_is (note_agrees now n) (not (note_agrees before n)) (sym (held_is (now_of now a) a now before is was refl refl (sym wide) (same_but_back a.table a.row before now same) n) ∙ m));
+    }
 
 -- ---- the numbers are right for the tables now
 
@@ -48,16 +79,20 @@ still_room before now old new room e same (inr has) = inr (λ t. subst (λ k. k 
 
 pub indexed_then : (revisions : List (Name × ℕ)) (before now : Tables) (table : ℕ) (row : ℤ) (old : PlainIndexed) (records : List PlainRecord) (was : PlainBefore) (room : ℕ) (lost won : List Note)
     → IsNoted before table row old.was → IsSameBut table row before now → HaveSameColumns before now → IsIndexed revisions before old → IsBefore now (now_of now old.was)
-    → lost ≡ held_only old.was (now_of now old.was) → won ≡ held_only (now_of now old.was) old.was → records ≡ map (told_by lost won) old.records → map as_made records ≡ map as_made old.records → room ≡ old.room
+    → lost ≡ held_only old.was (now_of now old.was) → won ≡ held_only (now_of now old.was) old.was
+    → ((b : Tables) → IsInStep b old.records → AreBefore b lost won → records ≡ map (told_by lost won) old.records) → map as_made records ≡ map as_made old.records → room ≡ old.room
     → IsIndexed revisions now (record { records = records; told = old.told; was = was; room = room })
 indexed_then revisions before now table row old records was room lost won noted same columns indexed is lost_is won_is told_is same_records same_room =
     let here : IsSameBut old.was.table old.was.row before now =
     subst (λ t. IsSameBut t old.was.row before now) (sym noted.table_is) (subst (λ r. IsSameBut table r before now) (sym noted.row_is) same) in
     let right : IsInStep now (map (told_by (held_only old.was (now_of now old.was)) (held_only (now_of now old.was) old.was)) old.records) =
     right_now before now old.was old.records noted.before is here indexed.in_step in
+    let there : AreBefore before lost won =
+    subst (λ (xs : List Note). AreBefore before xs won) (sym lost_is)
+    (subst (AreBefore before (held_only old.was (now_of now old.was))) (sym won_is) (before_edit before now old.was noted.before is here)) in
     record {
       in_step =
-          subst (IsInStep now) (sym told_is)
+          subst (IsInStep now) (sym (told_is before indexed.in_step there))
           (subst (λ (xs : List Note). IsInStep now (map (told_by xs won) old.records)) (sym lost_is)
           (subst (λ (xs : List Note). IsInStep now (map (told_by (held_only old.was (now_of now old.was)) xs) old.records)) (sym won_is) right));
       told = subst (AreTold revisions old.told) (sym same_records) indexed.told;
