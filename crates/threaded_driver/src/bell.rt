@@ -1,8 +1,8 @@
 //! What workers without a strand wait by. Nothing rests on it but how soon they find one, and how little they disturb the others.
-use crossbeam_utils::Backoff;
 use std::cell::Cell;
 use std::sync::Wait;
 use std::sync::atomic::{AtomicBool, AtomicU64, Ordering};
+use std::thread;
 use std::time::Duration;
 
 /// How often a worker listens for the bell between two looks for a strand.
@@ -22,17 +22,17 @@ const LONGEST: u64 = 20;
 #[derive(Drop)]
 pub(crate) struct Bell {
     listeners: AtomicU64,
+    // Whether somebody has begun to listen, or has heard it, since it was rung: else who pushes has nothing to do.
+    is_wanted: AtomicBool,
     has_rung: AtomicBool,
     is_over: AtomicU64,
     nappers: AtomicU64,
 }
 
-/// A worker that comes to the bell, how it idles, and how many looks were in vain since it had a strand. It spins at first, and then
-/// yields until it has a strand again.
+/// A worker that comes to the bell, and how many looks were in vain since it had a strand.
 #[derive(Drop)]
 pub(crate) struct Listener<'a> {
     bell: &'a Bell,
-    idle: Backoff,
     looks: Cell<u64>,
 }
 
@@ -41,6 +41,7 @@ impl Bell {
     pub(crate) fn new() -> Bell {
         Bell {
             listeners: AtomicU64::new(0),
+            is_wanted: AtomicBool::new(false),
             has_rung: AtomicBool::new(false),
             is_over: AtomicU64::new(0),
             nappers: AtomicU64::new(0),
@@ -51,22 +52,32 @@ impl Bell {
     pub(crate) fn listener(&self) -> Listener<'_> {
         Listener {
             bell: self,
-            idle: Backoff::new(),
             looks: Cell::new(0),
         }
     }
 
-    /// Rings for one worker that listens, if there is one. Where it rings still, nothing is written.
+    /// Rings for one worker that listens, where it is wanted.
     #[inline(always)]
     pub(crate) fn ring(&self) {
-        if self.listeners.load(Ordering::SeqCst) != 0 && !self.has_rung.load(Ordering::SeqCst) {
-            self.has_rung.store(true, Ordering::SeqCst);
+        if self.is_wanted.load(Ordering::SeqCst) {
+            self.sound();
         }
     }
 
-    /// Whether it rings, for the first one that asks.
+    /// Rings. It is kept out of the quick way of who pushes.
+    #[inline(never)]
+    fn sound(&self) {
+        self.is_wanted.store(false, Ordering::SeqCst);
+        self.has_rung.store(true, Ordering::SeqCst);
+    }
+
+    /// Whether it rings, for the first one that asks; then it is wanted again.
     fn is_heard(&self) -> bool {
-        self.has_rung.load(Ordering::SeqCst) && self.has_rung.swap(false, Ordering::SeqCst)
+        if self.has_rung.load(Ordering::SeqCst) && self.has_rung.swap(false, Ordering::SeqCst) {
+            self.is_wanted.store(true, Ordering::SeqCst);
+            return true;
+        }
+        false
     }
 
     /// Whether the run is over.
@@ -84,17 +95,20 @@ impl Bell {
 }
 
 impl Listener<'_> {
-    /// Listens from then on: before the first look, so that nothing that comes after it is missed.
+    /// Listens from then on: before the first look, so that nothing that comes after it is missed. It has heard what rang before: that would
+    /// have it look twice.
     pub(crate) fn listen(&self) {
         self.bell.listeners.fetch_add(1, Ordering::SeqCst);
+        self.bell.has_rung.store(false, Ordering::SeqCst);
+        self.bell.is_wanted.store(true, Ordering::SeqCst);
     }
 
-    /// Listens no longer, since it has found a strand. Where that was there may be more.
+    /// Listens no longer, since it has found a strand. Where that was there may be more, so it rings for another one that listens.
     pub(crate) fn leave(&self) {
         self.looks.set(0);
-        self.idle.reset();
-        self.bell.listeners.fetch_sub(1, Ordering::SeqCst);
-        self.bell.ring();
+        if self.bell.listeners.fetch_sub(1, Ordering::SeqCst) > 1 {
+            self.bell.sound();
+        }
     }
 
     /// Waits for the next look after one that was in vain.
@@ -108,13 +122,14 @@ impl Listener<'_> {
         }
     }
 
-    /// Waits for the bell or the run's end, for a short while.
+    /// Waits for the bell or the run's end, for a short while. Its processor is for others between two times that it listens: with a spin
+    /// of its own it would hear later, and each steal would take so much more.
     fn hear(&self) {
         for _ in 0..LISTENS {
             if self.bell.has_ended() || self.bell.is_heard() {
                 return;
             }
-            self.idle.snooze();
+            thread::yield_now();
         }
     }
 
