@@ -11,4 +11,5 @@ mod refusals;
 mod refused_folds;
 mod reruns;
 mod sessions;
+mod steps;
 mod strands;

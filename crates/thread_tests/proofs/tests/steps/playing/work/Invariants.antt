@@ -1,5 +1,5 @@
 use Rattle.std.proofs.Common.{◌≡◌}
-use Rattle.run_tests.proofs.tests.playing.work.Given as goal
+use Rattle.thread_tests.proofs.tests.steps.playing.work.Given as goal
 
 abbrev pub invariant-loop : goal.invariant-loop
 invariant-loop g l = l.core.program ≡ l.fn.core.program
