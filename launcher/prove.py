@@ -5,9 +5,10 @@
 they count, so a proof that nothing else runs beside gets one processor alone. Here they come after all others, but for those
 of crates with edits, which wait for them. And a proof keeps the processors that it began with, of which a large one gets one,
 since each is reckoned to take the memory that the first one does. Here each proof of the longest chain, and of those that are
-nearly as long, gets as many as memory holds, up to four: the further ones share what the first has loaded. A program comes
-before the tests that are ready by then, which would go first, being longer: its sessions and figures wait for it. Must-fail edits are
-tried together, over what the crate's proof has checked (launcher/together.py).
+nearly as long, gets two where there are four processors and memory holds them: the second shares what the first has loaded. More
+would take processors from other proofs, and each takes a tenth more of them for the same work. A program comes before the tests
+that are ready by then, which would go first, being longer: its sessions and figures wait for it. Must-fail edits are tried together,
+over what the crate's proof has checked (launcher/together.py).
 Where rt's files are made otherwise than this knows of, this is `rt ci` and no more.
 """
 import importlib.machinery
@@ -25,6 +26,8 @@ from proved_modules import ProvedModules  # noqa: E402
 FIRST, FURTHER = 3_500_000_000, 1_000_000_000
 # What part of the longest chain's work makes another one long.
 LONG = 0.85
+# How many jobs a proof of a long chain has at most, and for how many processors it has each.
+MOST, EACH = 2, 2
 
 
 def loaded(path):
@@ -57,11 +60,11 @@ def on_long_chains(tasks):
 
 
 def with_jobs(rt, call):
-    """The same call with up to four jobs, as many as the memory that is free now holds."""
+    """The same call with more jobs, as many as the memory that is free now holds."""
 
     def run(given, jobs):
         held = 1 + int((rt.free() - FIRST) / FURTHER)
-        return call(given, max(jobs, min(4, rt.processors(), held)))
+        return call(given, max(jobs, min(MOST, rt.processors() // EACH, held)))
 
     return run
 
