@@ -8,7 +8,8 @@ since each is reckoned to take the memory that the first one does. Here each pro
 nearly as long, gets two where there are four processors and memory holds them: the second shares what the first has loaded. More
 would take processors from other proofs, and each takes a tenth more of them for the same work. A program comes before the tests
 that are ready by then, which would go first, being longer: its sessions and figures wait for it. Must-fail edits are tried together,
-over what the crate's proof has checked (launcher/together.py).
+over what the crate's proof has checked (launcher/together.py). And what is below a crate is found once, which rt finds anew at
+each look, a minute and a half in all before its first proof.
 Where rt's files are made otherwise than this knows of, this is `rt ci` and no more.
 """
 import importlib.machinery
@@ -37,6 +38,18 @@ def loaded(path):
     sys.path.insert(0, path.rpartition("/")[0])
     loader.exec_module(module)
     return module
+
+
+def found_once(crate_type):
+    """Has crates of that type find once which libraries are below them: rt walks along all ways that lead down, more than a million."""
+    walk = crate_type.below
+
+    def below(crate):
+        if "libraries_below" not in vars(crate):
+            crate.libraries_below = walk(crate)
+        return [*crate.libraries_below]
+
+    crate_type.below = below
 
 
 def kind_of(name):
@@ -123,6 +136,8 @@ def main():
     rt = loaded(path)
     if all(hasattr(rt, name) for name in ("in_lanes", "free", "processors")):
         rt.in_lanes = work_first(rt, rt.in_lanes)
+    if hasattr(getattr(rt, "rtlib", None), "Crate"):
+        found_once(rt.rtlib.Crate)
     with ProvedModules(here, os.path.dirname(os.path.dirname(path)), with_edits(here)) as modules:
         if all(hasattr(rt, name) for name in together.NAMES):
             together.begin(rt, modules)
