@@ -5,6 +5,7 @@ check that is given them loads those that are up to date in it, and checks the o
 """
 import contextlib
 import glob
+import hashlib
 import os
 import re
 import shutil
@@ -25,15 +26,18 @@ def folder_of(kit):
 
 
 class ProvedModules:
-    """The modules that proofs below a folder's `crates/` have saved so far, of those crates."""
+    """The modules that proofs below a folder's `crates/` have saved so far, of those crates. What a run left there that was ended from outside
+    serves the next one, which may take these proofs as they are kept."""
 
     def __init__(self, top, kit, crates):
-        self.top, self.folder, self.crates = top, folder_of(kit), frozenset(crates)
-        self.room, self.over = tempfile.mkdtemp(prefix="proved-modules-"), threading.Event()
+        self.top, self.folder, self.crates, self.saved_by = top, folder_of(kit), frozenset(crates), {}
+        self.rooms = f"{tempfile.gettempdir()}/proved-modules-{hashlib.sha256(top.encode()).hexdigest()[:12]}"
+        self.room, self.over = f"{self.rooms}-{os.getpid()}", threading.Event()
         self.looking = threading.Thread(target=self.stay, daemon=True)
 
     def __enter__(self):
         if self.folder:
+            self.take_over()
             self.looking.start()
         return self
 
@@ -41,16 +45,28 @@ class ProvedModules:
         self.over.set()
         if self.folder:
             self.looking.join()
+            shutil.rmtree(self.room, ignore_errors=True)
+
+    def take_over(self):
+        """Makes the folder for the modules, with those that are left of runs of the same user that have ended."""
         shutil.rmtree(self.room, ignore_errors=True)
+        os.mkdir(self.room, 0o700)
+        for left in set(glob.glob(f"{self.rooms}-*")) - {self.room}:
+            with contextlib.suppress(OSError):
+                if os.lstat(left).st_uid == os.getuid() and not os.path.exists(f"/proc/{left.rpartition('-')[2]}"):
+                    for crate in self.crates.intersection(os.listdir(left)).difference(os.listdir(self.room)):
+                        os.rename(f"{left}/{crate}", f"{self.room}/{crate}")
+                    shutil.rmtree(left, ignore_errors=True)
 
     def stay(self):
         """Looks at the folders of checks until it is over."""
         while not self.over.wait(EACH):
             for saved in glob.glob(f"{tempfile.gettempdir()}/rattle-logic-built-locked-*"):
                 with contextlib.suppress(OSError, ValueError, IndexError):
-                    crate = self.crate_of(int(saved.split("-")[-2]))
+                    process = int(saved.split("-")[-2])
+                    crate = self.crate_of(process)
                     if crate in self.crates:
-                        self.take(saved, f"{self.room}/{crate}")
+                        self.take(crate, process, saved)
 
     def crate_of(self, process):
         """Which of the crates' proofs a process is; none of its tests, and none of a check elsewhere."""
@@ -60,8 +76,12 @@ class ProvedModules:
         crate = words[words.index("--crate-name") + 1]
         return crate if at == f"{self.top}/crates/{crate}" and "--test" not in words else None
 
-    def take(self, saved, to):
-        """Gives each module that is saved there by now a second name."""
+    def take(self, crate, process, saved):
+        """Gives each module that the process has saved there by now a second name, in place of what another one had saved of the crate."""
+        to = f"{self.room}/{crate}"
+        if self.saved_by.get(crate) != process:
+            shutil.rmtree(to, ignore_errors=True)
+            self.saved_by[crate] = process
         os.makedirs(to, exist_ok=True)
         there = set(os.listdir(to))
         for name in os.listdir(saved):

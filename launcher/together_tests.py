@@ -243,6 +243,29 @@ class Proofs(unittest.TestCase):
         self.assertEqual(os.listdir(f"{self.top}/seed/antt-checked-8_0_src"), ["toy.oantt"])
         self.assertFalse(os.path.exists(modules.room))
 
+    def test_modules_that_an_ended_run_has_left_are_given_until_the_crate_is_proved_anew(self):
+        ended = subprocess.Popen([sys.executable, "-c", ""])
+        ended.wait()
+        rooms = ProvedModules(self.top, f"{self.top}/kit", []).rooms
+        left = {f"{rooms}-{ended.pid}": ("toy", "more", "other"), f"{rooms}-{os.getppid()}": ("toy", "beside")}
+        for room, crates in left.items():
+            for crate in crates:
+                os.makedirs(f"{room}/{crate}")
+                with open(f"{room}/{crate}/old.oantt", "w", encoding="utf-8") as file:
+                    file.write("old")
+            self.addCleanup(shutil.rmtree, room, True)
+        self.proof("toy")
+        with ProvedModules(self.top, f"{self.top}/kit", ["toy", "more", "beside"]) as modules:
+            self.assertEqual(os.listdir(f"{modules.room}/more"), ["old.oantt"])
+            end = time.time() + 20
+            while not os.path.exists(f"{modules.room}/toy/toy.oantt") and time.time() < end:
+                time.sleep(0.1)
+            modules.over.set()
+            modules.looking.join()
+            self.assertEqual(os.listdir(f"{modules.room}/toy"), ["toy.oantt"])
+            self.assertEqual(sorted(os.listdir(modules.room)), ["more", "toy"])
+        self.assertEqual([os.path.exists(room) for room in left], [False, True])
+
     def test_none_are_kept_of_a_kit_that_does_not_say_where(self):
         with ProvedModules(self.top, f"{self.top}/other kit", ["toy"]) as modules:
             self.assertFalse(modules.give("toy", self.top))
