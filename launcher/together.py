@@ -109,7 +109,7 @@ class Together:
         while True:
             texts, functions = self.with_edits(crate, left)
             fell = self.fallen_in(crate, texts, flags, seed, is_whole) if functions else set()
-            now = {edit for edit, function in functions.items() if symbol_of(crate.name, *function) in fell}
+            now = {edit for edit, function in functions.items() if is_among(crate.name, *function, fell)}
             if not now:
                 return found
             found |= now
@@ -131,7 +131,7 @@ class Together:
             for edit in edits:
                 alone, among = (self.rt.read_edit(edit, folder)[0] for folder in (crate.folder, copy))
                 function = function_in(crate.folder, alone) if alone and among else None
-                if function and function not in functions.values():
+                if function and not any(are_alike(function, other) for other in functions.values()):
                     functions[edit] = function
                     texts.update(among)
                     for path, text in among.items():
@@ -170,10 +170,18 @@ def function_in(folder, texts):
     return (path, name) if name else None
 
 
-def symbol_of(crate, path, name):
-    """What a check calls that function of a file."""
+def is_among(crate, path, name, symbols):
+    """Whether that function of a file is one of those that a check calls so. A method is called by where its type stands, maybe in another file;
+    of functions with edits no other one is called like it."""
+    if "::" in name:
+        return any(symbol.startswith(f"{crate}::") and symbol.endswith(f"::{name}") for symbol in symbols)
     inner = path[: -len(".rt")].split("/")[1:]
-    return "::".join([crate, *(inner if inner != ["lib"] else []), name])
+    return "::".join([crate, *(inner if inner != ["lib"] else []), name]) in symbols
+
+
+def are_alike(one, other):
+    """Whether two functions of files may be called alike by a check."""
+    return one[1] == other[1] and (one[0] == other[0] or "::" in one[1])
 
 
 def behind_proofs(tasks):

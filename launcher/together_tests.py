@@ -145,6 +145,21 @@ class Edits(unittest.TestCase):
         self.assertEqual(together.function_of(SOURCE + once_more, SOURCE.replace("== MOST", "!= MOST") + once_more), None)
         self.assertEqual(together.function_of(SOURCE, SOURCE.replace("add(1)", "add(2)").replace("if one", "if other")), None)
 
+    def test_a_method_is_called_by_where_its_type_stands(self):
+        for path, name, symbol, is_it in (
+            ("src/lib.rt", "more", "toy::more", True),
+            ("src/up/more.rt", "more", "toy::up::more::more", True),
+            ("src/up.rt", "more", "toy::more", False),
+            ("src/up.rt", "Number::is_most", "toy::Number::is_most", True),
+            ("src/up.rt", "Number::is_most", "toy::down::Number::is_most", True),
+            ("src/up.rt", "Number::is_most", "other::Number::is_most", False),
+            ("src/up.rt", "Number::is_most", "toy::OtherNumber::is_most", False),
+        ):
+            self.assertEqual(together.is_among("toy", path, name, {symbol, "toy::up::less"}), is_it)
+        self.assertTrue(together.are_alike(("src/a.rt", "Number::is_most"), ("src/b.rt", "Number::is_most")))
+        self.assertFalse(together.are_alike(("src/a.rt", "more"), ("src/b.rt", "more")))
+        self.assertTrue(together.are_alike(("src/a.rt", "more"), ("src/a.rt", "more")))
+
     def has(self, asked, edit):
         old, new = EDITS[edit]
         return new in asked[1]["src/lib.rt"] and old not in asked[1]["src/lib.rt"]
