@@ -1,6 +1,5 @@
-//! A report inside a program of one's own: tables filled row by row, runs by threads, an edit, and values read by their names.
-#![tactic(auto)]
-
+// A report inside a program of one's own (docs/EMBEDDING.md): tables filled row by row, runs by threads, an edit, and values read by
+// their names.
 use anyhow::{Context, Result, bail};
 use input_tables::Tables;
 use kept_session::Session;
@@ -28,12 +27,12 @@ fn add_sales(alloc: Global, tables: &mut Tables) -> Result<()> {
     Ok(())
 }
 
-// Runs the report by four workers, and prints its total and what was done anew.
+// Runs the report by four workers: its total, and how many lines were done anew.
 fn run<V: View + Send>(
-    rt: &(impl Print + Threads + Wait + Sync),
+    rt: &(impl Threads + Wait + Sync),
     alloc: Global,
     session: &mut Session<V>,
-) -> Result<()> {
+) -> Result<(i64, u64)> {
     let Ok((answer, _)) = run_threads(rt, alloc, session, 4, &NoGate) else {
         bail!("the list of strands refused a worker");
     };
@@ -48,32 +47,45 @@ fn run<V: View + Send>(
     let Some(Val::Int(total)) = value(session.checked(), values.as_slice(), "total") else {
         bail!("the report has no total");
     };
-    Ok(println!(rt; "total {total}, lines done: {executed}")?)
+    Ok((*total, executed))
 }
 
 // Runs the report, changes a row, and runs it again.
 fn use_report<V: View + Send>(
-    rt: &(impl Print + Threads + Wait + Sync),
+    rt: &(impl Threads + Wait + Sync),
     alloc: Global,
     session: &mut Session<V>,
-) -> Result<()> {
-    run(rt, alloc, session)?;
+) -> Result<((i64, u64), (i64, u64))> {
+    let first = run(rt, alloc, session)?;
     let edit = Edit::Put {
         table: "sales",
         row: 2,
         values: vec![in alloc; 4, 7]?,
     };
     session.apply(alloc, &edit)?;
-    run(rt, alloc, session)
+    let again = run(rt, alloc, session)?;
+    Ok((first, again))
 }
 
-fn main(rt: HostRuntime) -> Result<()> {
-    let alloc = rt.alloc();
+// Makes the tables, opens the report over them, and runs it before and behind the edit.
+fn two_totals(
+    rt: &(impl Threads + Wait + Sync),
+    alloc: Global,
+) -> Result<((i64, u64), (i64, u64))> {
     let make = |kind: Kind| -> Result<PlainView, AllocError> { Ok(PlainView::new(alloc, kind)) };
     let mut tables = Tables::new(alloc);
     add_sales(alloc, &mut tables)?;
     let mut session = open(alloc, REPORT, tables, 64, &make).context("the report")?;
-    let used = use_report(&rt, alloc, &mut session);
+    let used = use_report(rt, alloc, &mut session);
     session.end();
     used
+}
+
+#[test]
+fn a_report_runs_before_and_behind_an_edit(rt: HostRuntime) {
+    let as_meant = match two_totals(&rt, rt.alloc()) {
+        Ok((first, again)) => first == (131, 3) && again == (138, 1),
+        Err(_) => false,
+    };
+    assert!(&rt; as_meant);
 }
