@@ -1,6 +1,6 @@
 -- Iterations that records answer, one behind another, and among them those that are recorded.
-use Rattle.std.proofs.Common.{◌≡◌, ◌∙◌, ℕ, zero, suc, ◌+◌, ◌-◌, ◌<◌, ◌==◌, ℤ, pos, ◌+ℤ◌, Bool, false, true, List, [], ◌∷◌, length, Option, None, Some, slice_get, slice_set, map, refl, sym, ap, subst, arith}
-use Rattle.std.proofs.Math.IntN.{+ℤ_assoc}
+use Rattle.std.proofs.Common.{◌≡◌, ◌∙◌, ℕ, zero, suc, ◌+◌, ◌-◌, ◌≤◌, ◌<◌, ◌==◌, ℤ, pos, ◌+ℤ◌, Bool, false, true, List, [], ◌∷◌, length, Option, None, Some, slice_get, slice_set, map, refl, sym, ap, subst, arith}
+use Rattle.std.proofs.Math.IntN.{+ℤ_assoc, +ℤ_idr}
 use Rattle.std.specs.Prelude.{IfNone}
 use Rattle.meaning.specs.Elision.{depth_limit}
 use Rattle.meaning.specs.Tables.{Tables}
@@ -37,7 +37,7 @@ use Rattle.answered_loops.proofs.Found.{found_arguments}
 use Rattle.answered_loops.proofs.Sums.{absorbing_reads, absorbing_sum}
 use Rattle.answered_loops.proofs.Turns.{turn_answered, with_answer}
 use Rattle.running_ahead.specs.AnsweredChains.{AnswerFrom, AreTaken, ArePassed, nothing, recorded, answered}
-use Rattle.running_ahead.specs.Leaves.{PlainLeaf, Gathered, gathered, IsRecorded, AreRecorded, more, arguments_then, gathered_by}
+use Rattle.running_ahead.specs.Leaves.{PlainLeaf, IsLeaf, AreLeaves, no_leaf, one_behind, Gathered, gathered, IsRecorded, AreRecorded, more, arguments_then, gathered_by}
 use Rattle.running_ahead.specs.Stepped.{IsStepped}
 use Rattle.running_ahead.proofs.LeafChains.{leaf_of, one_more}
 use Rattle.running_ahead.proofs.Stepping.{steps_way}
@@ -172,6 +172,13 @@ module _ (setting : Setting) (l : Loop) (j : PlainLoop) (p : ℕ) (slots : List 
       subst (λ (k : PlainTally). AreRecorded setting l p slots left h.first x (n + m) (gathered_by w k (arguments_then (n + m) l h xs))) (sym those.tally)
       (subst (λ (k : PlainLayer). AreRecorded setting l p slots left h.first x (n + m) (gathered_by k (answered_more m t) (arguments_then (n + m) l h xs))) (sym those.layer)
       (subst (λ (k : ℕ). AreRecorded setting l p slots left h.first x (n + k) (gathered_by (absorbed depth_here those.members v) (answered_more k t) (arguments_then (n + k) l h xs))) those.many all))
+
+-- one leaf at most is recorded
+pub leaves_passed : (setting : Setting) (f : PlainLeaf) (n : ℕ) (l m : PlainLayer) (t u : PlainTally) → AreLeaves setting f l t n m u → n ≤ 1 → ArePassed setting f n l t m u
+leaves_passed setting f zero l m t u no_leaf few = nothing refl refl refl
+leaves_passed setting f (suc zero) l m t u (one_behind i v o w y no_leaf leaf) few =
+    recorded refl (subst (λ (z : ℤ). IsLeaf setting (record f { number = z }) l t m u) (+ℤ_idr f.number) leaf)
+leaves_passed setting f (suc (suc n)) l m t u those few = absurd (let wrong : ⊥ = omega (arith, few) in wrong)
 
 -- no layer is open that wasn't
 pub passed_opened : (setting : Setting) (f : PlainLeaf) (n : ℕ) (l m : PlainLayer) (t u : PlainTally) → ArePassed setting f n l t m u → u.opened ≡ t.opened

@@ -1,5 +1,6 @@
 -- Iterations whose statements are done in layers of their own are recorded, one behind another.
-use Rattle.std.proofs.Common.{◌≡◌, ◌∙◌, ℕ, suc, ◌+◌, ◌-◌, ◌==◌, ℤ, pos, ◌+ℤ◌, false, true, List, [], ◌∷◌, None, map, sym, ap, subst, add-one}
+use Rattle.std.proofs.Common.{◌≡◌, ◌∙◌, ℕ, zero, suc, ◌+◌, ◌-◌, ◌==◌, ℤ, pos, ◌+ℤ◌, false, true, List, [], ◌∷◌, None, map, refl, sym, ap, subst, add-one}
+use Rattle.std.proofs.Math.IntN.{+ℤ_assoc}
 use Rattle.linked_program.specs.CodeView.{expression, memo_of, slots_of}
 use Rattle.evaluation.specs.declared.slot.Slot.{Slot}
 use Rattle.positions.specs.declared.phase.Phase.TheVariants.{Running}
@@ -14,7 +15,7 @@ use Rattle.positions.specs.Tallies.{PlainTally}
 use Rattle.positions.specs.Advance.{rest_of}
 use Rattle.own_statements.specs.Fills.{IsCounted}
 use Rattle.running_ahead.specs.Stepped.{IsStepped}
-use Rattle.running_ahead.specs.Leaves.{PlainLeaf, IsLeaf, Gathered, gathered, gathered_by, IsRecorded, AreRecorded, more, arguments_then}
+use Rattle.running_ahead.specs.Leaves.{PlainLeaf, IsLeaf, AreLeaves, no_leaf, one_behind, Gathered, gathered, gathered_by, IsRecorded, AreRecorded, none, more, arguments_then}
 use Rattle.running_ahead.proofs.LeafSteps.{leaf_steps}
 
 module _ (setting : Setting) (l : Loop) (j : PlainLoop) where
@@ -35,12 +36,40 @@ module _ (setting : Setting) (l : Loop) (j : PlainLoop) where
         subst (λ (k : ℕ). IsStepped setting (gathered Running a (gathered_by v t xs) s) (gathered Running (waiting false None (Turns l (rest_of h)) a) (gathered_by w u ((l.low +ℤ pos k) ∷ [])) s)) first
         (leaf_steps setting l h j a v t xs s there some found_here memo deep_here counted_here amid w u leaf_here)
 
+    one_longer : (h : Share) (xs : List ℤ) (x : Gathered) (n : ℕ) (v w : PlainLayer) (t u : PlainTally) → AreRecorded setting l p slots left h.first x n (gathered_by v t (arguments_then n l h xs))
+        → IsLeaf setting (leaf_of left (h.first + n)) v t w u → AreRecorded setting l p slots left h.first x (suc n) (gathered_by w u (arguments_then (suc n) l h xs))
+    one_longer h xs x n v w t u before leaf =
+        let y = gathered_by v t (arguments_then n l h xs) in
+        let z = gathered_by w u ((l.low +ℤ pos (h.first + n)) ∷ []) in
+        let opened : u.opened ≡ t.opened = ap (λ (o : PlainTally). o.opened) leaf.tally in
+        more n y z before opened (is_recorded (h.first + n) v w t u (arguments_then n l h xs) leaf)
+
     -- one more behind so many
     pub one_more : (h : Share) (xs : List ℤ) (x : Gathered) (n : ℕ) (v w : PlainLayer) (t u : PlainTally) → AreRecorded setting l p slots left h.first x n (gathered_by v t (arguments_then n l h xs))
         → IsLeaf setting (leaf_of left (h.first + n)) v t w u → AreRecorded setting l p slots left h.first x (n + 1) (gathered_by w u (arguments_then (n + 1) l h xs))
     one_more h xs x n v w t u before leaf =
-        let y = gathered_by v t (arguments_then n l h xs) in
-        let z = gathered_by w u ((l.low +ℤ pos (h.first + n)) ∷ []) in
-        let opened : u.opened ≡ t.opened = ap (λ (o : PlainTally). o.opened) leaf.tally in
-        let longer : AreRecorded setting l p slots left h.first x (suc n) z = more n y z before opened (is_recorded (h.first + n) v w t u (arguments_then n l h xs) leaf) in
-        subst (λ (k : ℕ). AreRecorded setting l p slots left h.first x k (gathered_by w u (arguments_then k l h xs))) (sym (add-one n)) longer
+        subst (λ (k : ℕ). AreRecorded setting l p slots left h.first x k (gathered_by w u (arguments_then k l h xs))) (sym (add-one n)) (one_longer h xs x n v w t u before leaf)
+
+    -- leaves from an iteration on are iterations that are recorded
+    pub leaves_recorded : (h : Share) (xs : List ℤ) (n : ℕ) (v w : PlainLayer) (t u : PlainTally) → AreLeaves setting (leaf_of left h.first) v t n w u
+        → AreRecorded setting l p slots left h.first (gathered_by v t xs) n (gathered_by w u (arguments_then n l h xs))
+    leaves_recorded h xs zero v w t u no_leaf = none
+    leaves_recorded h xs (suc n) v w t u (one_behind m k o z y before leaf) =
+        let number : (l.low +ℤ pos h.first) +ℤ pos n ≡ l.low +ℤ pos (h.first + n) = +ℤ_assoc l.low (pos h.first) (pos n) in
+        let here : IsLeaf setting (leaf_of left (h.first + n)) k o w u =
+        subst (λ (i : ℤ). IsLeaf setting (record { callee = j.callee; size = slots_of setting.codes j.callee; left = left - 1; number = i }) k o w u) number leaf in
+        one_longer h xs (gathered_by v t xs) n k w o u (leaves_recorded h xs n v k t o before) here
+
+-- no layer is open that wasn't
+pub leaves_opened : (setting : Setting) (f : PlainLeaf) (n : ℕ) (l m : PlainLayer) (t u : PlainTally) → AreLeaves setting f l t n m u → u.opened ≡ t.opened
+leaves_opened setting f zero l m t u no_leaf = refl
+leaves_opened setting f (suc n) l m t u (one_behind i v o w y before leaf) = ap (λ (o : PlainTally). o.opened) leaf.tally ∙ leaves_opened setting f n l v t o before
+
+-- as they are of an iteration's number in its loop
+pub leaves_at : (setting : Setting) (l : Loop) (j : PlainLoop) (left i : ℕ) (size levels : ℕ) (number : ℤ) (n : ℕ) (v w : PlainLayer) (t u : PlainTally)
+    → size ≡ slots_of setting.codes j.callee → levels ≡ left → number ≡ l.low +ℤ pos i
+    → AreLeaves setting (record { callee = j.callee; size = size; left = levels - 1; number = number }) v t n w u → AreLeaves setting (leaf_of setting l j left i) v t n w u
+leaves_at setting l j left i size levels number n v w t u slots_is left_is number_is those =
+    subst (λ (x : ℤ). AreLeaves setting (record { callee = j.callee; size = slots_of setting.codes j.callee; left = left - 1; number = x }) v t n w u) number_is
+    (subst (λ (q : ℕ). AreLeaves setting (record { callee = j.callee; size = slots_of setting.codes j.callee; left = q - 1; number = number }) v t n w u) left_is
+    (subst (λ (q : ℕ). AreLeaves setting (record { callee = j.callee; size = q; left = levels - 1; number = number }) v t n w u) slots_is those))

@@ -1,5 +1,5 @@
 -- Iterations of a loop over a memo procedure that are recorded at once.
-use Rattle.std.specs.Prelude.{◌≡◌, ℕ, zero, suc, ◌+◌, ◌-◌, ◌==◌, ℤ, pos, ◌+ℤ◌, true, false, List, [], ◌∷◌, ◌++◌, length, Some, None}
+use Rattle.std.specs.Prelude.{◌≡◌, ℕ, zero, suc, ◌+◌, ◌-◌, ◌<◌, ◌==◌, ℤ, pos, ◌+ℤ◌, true, false, List, [], ◌∷◌, ◌++◌, length, Some, None}
 use Rattle.meaning.specs.Elision.{depth_limit}
 use Rattle.evaluation.specs.declared.slot.Slot.{Slot}
 use Rattle.evaluation.specs.Slots.{slots_for}
@@ -42,6 +42,20 @@ pub record IsLeaf (setting : Setting) (f : PlainLeaf) (l : PlainLayer) (t : Plai
       (entering f.callee (depth_limit - f.left) (blank true setting.kinds (length setting.codes))) (Some value) child own
   pub layer : m ≡ covered l own
   pub tally : u ≡ closing setting.program.revisions own value (opening (opened_by f) t)
+
+-- that iteration so far behind it
+abbrev pub leaf_behind : ℕ → PlainLeaf → PlainLeaf
+leaf_behind n f = record f { number = f.number +ℤ pos n }
+
+-- no record answers so many iterations from that one on
+abbrev pub AreUnknown : Setting → PlainLeaf → ℕ → Type 0
+AreUnknown setting f n = (i : ℕ) → i < n → record_for setting (depth_limit - f.left) f.callee ((f.number +ℤ pos i) ∷ []) ≡ None
+
+-- so many iterations from that one on are such leaves, one after another
+pub data AreLeaves (setting : Setting) (f : PlainLeaf) (l : PlainLayer) (t : PlainTally) : ℕ → PlainLayer → PlainTally → Type 0 where
+  no_leaf : AreLeaves setting f l t zero l t
+  one_behind : (n : ℕ) (v : PlainLayer) (u : PlainTally) (w : PlainLayer) (y : PlainTally)
+      → AreLeaves setting f l t n v u → IsLeaf setting (leaf_behind n f) v u w y → AreLeaves setting f l t (suc n) w y
 
 -- ---- a strand over whose loop's instance iterations are recorded
 

@@ -16,7 +16,7 @@ ghost use Rattle.own_statements.specs.Runs.{IsBody};
 ghost use Rattle.running_ahead.specs.AnsweredChains.{ArePassed, IsRefusedTurn};
 ghost use Rattle.running_ahead.specs.Leaves.{AreRecorded, IsRefusedLeaf, arguments_then, gathered_of, plain_leaf};
 
-use crate::leaf::{Leaf, record_leaf};
+use crate::leaf::Leaf;
 use crate::leaf_chain::{Stretch, record_chain};
 use activations::code::{LoopCode, instructions};
 use activations::setting::Setting;
@@ -85,7 +85,18 @@ pub(crate) fn chain_through<V: View>(
         return answered_chain(machine, alloc, setting, code, stretch, kit);
     }
     // A first run's loop has no more in it than it needs.
-    match record_chain(machine, alloc, setting, code, stretch, kit) {
+    let callee = code.callee;
+    let size = setting.program.slots(callee);
+    let left = machine.top.left() - 1;
+    let body = instructions(setting.program, callee, 0, 0);
+    let first = Leaf {
+        callee,
+        size,
+        left,
+        number: number_of(stretch.site, stretch.share),
+        body,
+    };
+    match record_chain(machine, alloc, setting, first, stretch.most, kit) {
         Ok(done) => Ok(done),
         Err(_) => Err(None),
     }
@@ -210,17 +221,6 @@ fn go_on<V: View>(
     }
 }
 
-/// No iterations.
-#[inline(always)]
-fn nothing(ahead: Ahead) -> Passed
-    ensures none { result.count ≡ 0 }
-{
-    Passed {
-        count: 0,
-        near: ahead.near,
-    }
-}
-
 /// Whether the loop's layer keeps what is read.
 #[inline(always)]
 fn keeps_reads<V: View>(machine: &Machine<V>) -> bool
@@ -329,13 +329,14 @@ fn record_next<V: View>(
     ensures values { HaveValues setting.entry.program.now.kinds machine.old.tally.made
         → HaveValues setting.entry.program.now.kinds machine.new.tally.made }
 {
-    let one = Passed {
-        count: 1,
-        near: ahead.near.wrapping_add(1),
-    };
-    match record_leaf(machine, alloc, setting, leaf, kit) {
-        Ok((true, back)) => Ok((one, back)),
-        Ok((false, back)) => Ok((nothing(ahead), back)),
+    match record_chain(machine, alloc, setting, leaf, 1, kit) {
+        Ok((count, back)) => {
+            let passed = Passed {
+                count,
+                near: ahead.near.wrapping_add(1),
+            };
+            Ok((passed, back))
+        }
         Err(_) => Err(None),
     }
 }

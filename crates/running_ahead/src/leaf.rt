@@ -1,5 +1,5 @@
 //! One iteration of a loop over a memo procedure, done in a layer of its own that becomes a record at once.
-ghost use Rattle.std.specs.Prelude.{◌≡◌, ◌∷◌, ◌-◌, [], true, false, Some, None, All, IfErr, IfOk, IfSome, OnErr, OnOk, length};
+ghost use Rattle.std.specs.Prelude.{◌≡◌, ◌∷◌, ◌-◌, [], true, false, Some, None, All, IfErr, IfOk, IfSome, OnErr, length};
 ghost use Rattle.monoid_laws.specs.Kinds.{IsMonoid, identities};
 ghost use Rattle.meaning.specs.Elision.{depth_limit};
 ghost use Rattle.record_theory.specs.Named.{HaveValues};
@@ -12,20 +12,18 @@ ghost use Rattle.positions.specs.Advance.{record_for};
 ghost use Rattle.activations.specs.Given.{lent};
 ghost use Rattle.own_statements.specs.Paths.{ComesTo};
 ghost use Rattle.own_statements.specs.Runs.{IsBody};
-ghost use Rattle.running_ahead.specs.Leaves.{IsLeaf, IsRefusedLeaf, opened_by, plain_leaf};
+ghost use Rattle.running_ahead.specs.Leaves.{IsLeaf, opened_by, plain_leaf};
 
 use activations::activation::Activation;
 use activations::setting::Setting;
-use layers::layer::{DEEPEST, Layer};
+use layers::layer::Layer;
 use layers::recording::Opened;
 use layers::spares::SpareLists;
 use layers::tally::Tally;
 use linked_program::checked::Checked;
 use linked_program::code::Instruction;
 use own_statements::runs::call;
-use small_steps::machine::Machine;
 use std::alloc::{AllocError, Global};
-use std::mem;
 use view_pool::{Kit, View};
 
 /// An iteration of a loop whose only argument is its number: as an instance of that procedure, which has so many slots and so many levels
@@ -37,33 +35,6 @@ pub(crate) struct Leaf<'a> {
     pub(crate) left: u32,
     pub(crate) number: i64,
     pub(crate) body: &'a [Instruction],
-}
-
-/// Whether a record answers an iteration.
-#[inline(always)]
-#[tactic(auto, using(crate::proofs::LeafSteps::no_record))]
-pub(crate) fn is_answered(setting: Setting<'_>, leaf: Leaf<'_>) -> bool
-    ensures unknown { result ≡ false
-        → record_for (lent setting.entry) (depth_limit - leaf.entry.left) leaf.entry.callee (leaf.entry.number ∷ []) ≡ None }
-{
-    let depth = DEEPEST.saturating_sub(leaf.left);
-    if depth == 0 {
-        return false;
-    }
-    // In a first run there are none.
-    if setting.records.is_empty() {
-        return false;
-    }
-    match setting.records.valid(
-        leaf.callee,
-        &[leaf.number],
-        depth,
-        setting.tables,
-        setting.program,
-    ) {
-        Some(_) => true,
-        None => false,
-    }
 }
 
 /// The statements of an iteration over its own layer; the value that it gives back, if it does them all by itself.
@@ -192,58 +163,5 @@ pub(crate) fn own_layer<V: View>(
             alloc, kit, true, count, notes, flags, used,
         )),
         Err(_) => Err(kit),
-    }
-}
-
-/// An iteration that no record answers, in a layer of that kit, which is given back. Whether it was done; where it wasn't, nothing has changed. Where memory is
-/// refused when the layer becomes a record, that stays above the loop's, which has other values.
-#[inline(always)]
-pub(crate) fn record_leaf<V: View>(
-    machine: &mut Machine<V>,
-    alloc: Global,
-    setting: Setting<'_>,
-    leaf: Leaf<'_>,
-    kit: Kit<V>,
-) -> Result<(bool, Kit<V>), AllocError>
-    requires body { IsBody setting.program.now.codes leaf.callee leaf.body.now }
-    requires unknown { record_for (lent setting) (depth_limit - leaf.left) leaf.callee (leaf.number ∷ []) ≡ None }
-    requires kit { kit ≡ setting.program.now.kinds }
-    requires kinds { machine.old.layer.kinds ≡ setting.program.now.kinds }
-    requires monoids { All IsMonoid setting.program.now.kinds }
-    ensures leaf { IfOk result (λ done. done.0 ≡ true → IsLeaf (lent setting.entry) (plain_leaf leaf.entry)
-        machine.old.layer machine.old.tally machine.new.layer machine.new.tally) }
-    ensures others { IfOk result (λ done. done.0 ≡ true
-        → machine.new ≡ record machine.old { layer = machine.new.layer; tally = machine.new.tally }) }
-    ensures same { IfOk result (λ done. done.0 ≡ false → machine.new ≡ machine.old) }
-    ensures kit { IfOk result (λ done. done.1 ≡ setting.entry.program.now.kinds) }
-    ensures refused { OnErr result (IsRefusedLeaf machine.old machine.new) }
-    ensures kinds { machine.new.layer.kinds ≡ machine.old.layer.kinds }
-    ensures values { HaveValues setting.entry.program.now.kinds machine.old.tally.made
-        → HaveValues setting.entry.program.now.kinds machine.new.tally.made }
-{
-    if machine.lower.reserve(1).is_err() {
-        return Ok((false, kit));
-    }
-    let mut own = match own_layer(&mut machine.lists, alloc, setting.program, kit) {
-        Ok(own) => own,
-        Err(kit) => return Ok((false, kit)),
-    };
-    let recorded = record_in(
-        &mut own,
-        &mut machine.layer,
-        &mut machine.tally,
-        setting,
-        leaf,
-        &mut machine.spares.child,
-        &mut machine.numbers,
-    );
-    match recorded {
-        Ok(done) => Ok((done, own.close_in(&mut machine.lists))),
-        Err(error) => {
-            machine
-                .lower
-                .push_reserved(mem::replace(&mut machine.layer, own));
-            Err(error)
-        }
     }
 }

@@ -1,23 +1,21 @@
-use Rattle.std.proofs.Common.{◌≡◌, ◌++◌, ◌∷◌, [], List, length, suc, reverse, ap, ◌∙◌, subst, sym}
+use Rattle.std.proofs.Common.{◌++◌, ◌∷◌, [], List, length, suc, reverse, ap, ◌∙◌, subst, sym}
 use Rattle.std.proofs.lemmas.List.{reverse-append}
 use Rattle.record_theory.specs.Named.{HaveValues}
 use Rattle.positions.specs.Layers.{PlainLayer}
 use Rattle.positions.specs.Strands.{PlainStrand}
 use Rattle.activations.specs.Given.{lent}
-use Rattle.running_ahead.specs.Leaves.{AreRecorded, none, gathered_of}
+use Rattle.running_ahead.specs.Leaves.{AreLeaves, no_leaf, plain_leaf}
 use Rattle.running_ahead.proofs.leaf_chain.record_chain.Goals as goal
 
-pub returns-then-is_err-clause-records : goal.returns-then-is_err-clause-records
-returns-then-is_err-clause-records g c =
+pub returns-then-is_err-clause-leaves : goal.returns-then-is_err-clause-leaves
+returns-then-is_err-clause-leaves g c =
     let m : PlainStrand = c.args.machine.now in
-    let x = c.args.stretch in
-    subst (λ (s : PlainStrand). AreRecorded (lent c.args.setting) x.site m.top.procedure m.top.slots m.top.left x.share.first (gathered_of m m.arguments) 0 (gathered_of s m.arguments)) (sym c.machine.view_is) none
+    subst (λ (s : PlainStrand). AreLeaves (lent c.args.setting) (plain_leaf c.args.first) m.layer m.tally 0 s.layer s.tally) (sym c.machine.view_is) no_leaf
 
-pub returns-in-Err-clause-records : goal.returns-in-Err-clause-records
-returns-in-Err-clause-records g c =
+pub returns-in-Err-clause-leaves : goal.returns-in-Err-clause-leaves
+returns-in-Err-clause-leaves g c =
     let m : PlainStrand = c.args.machine.now in
-    let x = c.args.stretch in
-    subst (λ (s : PlainStrand). AreRecorded (lent c.args.setting) x.site m.top.procedure m.top.slots m.top.left x.share.first (gathered_of m m.arguments) 0 (gathered_of s m.arguments)) (sym c.machine.view_is) none
+    subst (λ (s : PlainStrand). AreLeaves (lent c.args.setting) (plain_leaf c.args.first) m.layer m.tally 0 s.layer s.tally) (sym c.machine.view_is) no_leaf
 
 pub returns-in-Ok-recorded-clause-values : goal.returns-in-Ok-recorded-clause-values
 returns-in-Ok-recorded-clause-values g c h =
