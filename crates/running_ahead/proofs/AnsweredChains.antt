@@ -1,8 +1,9 @@
 -- Iterations that records answer, one behind another, and among them those that are recorded.
-use Rattle.std.proofs.Common.{◌≡◌, ◌∙◌, ℕ, zero, suc, ◌+◌, ◌-◌, ◌≤◌, ◌<◌, ◌==◌, ℤ, pos, ◌+ℤ◌, Bool, false, true, List, [], ◌∷◌, length, Option, None, Some, slice_get, slice_set, map, refl, sym, ap, subst, arith}
+use Rattle.std.proofs.Common.{◌≡◌, ◌∙◌, ℕ, zero, suc, ◌+◌, ◌-◌, ◌≤◌, ◌<◌, ◌==◌, ℤ, pos, ◌+ℤ◌, Bool, false, true, List, [], ◌∷◌, ◌++◌, length, Option, None, Some, slice_get, slice_set, map, refl, sym, ap, subst, arith}
 use Rattle.std.proofs.Math.IntN.{+ℤ_assoc, +ℤ_idr}
-use Rattle.std.specs.Prelude.{IfNone}
+use Rattle.std.specs.Prelude.{IfNone, ◌&&◌, nat_le}
 use Rattle.meaning.specs.Elision.{depth_limit}
+use Rattle.meaning.specs.Every.{every}
 use Rattle.meaning.specs.Tables.{Tables}
 use Rattle.monoid_laws.specs.declared.Kind.{Kind}
 use Rattle.monoid_laws.specs.Kinds.{AreWorths}
@@ -14,10 +15,17 @@ use Rattle.evaluation.specs.declared.slot.Slot.TheVariants.{Has}
 use Rattle.evaluation.specs.Slots.{number_in}
 use Rattle.evaluation.specs.Values.{pure, values_at}
 use Rattle.record_theory.specs.Batches.{AreValidFrom}
-use Rattle.record_theory.specs.Record.{PlainRecord}
+use Rattle.record_theory.specs.Record.{PlainRecord, is_of, as_made}
 use Rattle.record_theory.specs.Sums.{IsSumOf}
-use Rattle.record_theory.specs.Validity.{valid_at}
+use Rattle.record_theory.specs.Validity.{has_revision, valid_at}
+use Rattle.record_theory.specs.Commits.{AreSingle}
+use Rattle.record_theory.specs.InStep.{IsInStep}
+use Rattle.record_theory.specs.Named.{AreValuesFrom, HaveValues}
+use Rattle.record_theory.proofs.Members.{left_is, right_is}
+use Rattle.record_theory.proofs.Singles.{valid_values}
 use Rattle.rerun_records.specs.Sums.{with_reads, IsBatchFor}
+use Rattle.rerun_records.specs.Blocks.{is_fresh_at}
+use Rattle.rerun_records.proofs.Wholes.{of_procedure, of_arguments, leaf_valid}
 use Rattle.positions.specs.declared.phase.Phase.TheVariants.{Running}
 use Rattle.positions.specs.declared.work.Loop.{Loop}
 use Rattle.positions.specs.declared.work.Share.{Share}
@@ -100,6 +108,56 @@ batch_taken keeps program tables records f most count sum l m t u deep asked sam
       layer = layer ∙ absorbing_reads d asked.reads sum l (λ k. asked.has (same ∙ k)) ∙ absorbing_sum d batch.members whole l are sum_is;
       tally = tally;
     }
+
+-- ---- records one behind another
+
+answer_more : (setting : Setting) (d f : ℕ) (v : ℤ) (ms : List PlainRecord) (r : PlainRecord) → AnswerFrom setting d f v ms → record_for setting d f ((v +ℤ pos (length ms)) ∷ []) ≡ Some r
+    → AnswerFrom setting d f v (ms ++ r ∷ [])
+answer_more setting d f v [] r h e = (subst (λ (u : ℤ). record_for setting d f (u ∷ []) ≡ Some r) (+ℤ_idr v) e, tt)
+answer_more setting d f v (m ∷ ms) r h e =
+    let one : 1 + length ms ≡ suc (length ms) = omega arith in
+    let number : (v +ℤ pos 1) +ℤ pos (length ms) ≡ v +ℤ pos (suc (length ms)) = +ℤ_assoc v (pos 1) (pos (length ms)) ∙ ap (λ n. v +ℤ pos n) one in
+    (h.0, answer_more setting d f (v +ℤ pos 1) ms r h.1 (subst (λ (u : ℤ). record_for setting d f (u ∷ []) ≡ Some r) (sym number) e))
+
+absorbed_more : (d : ℕ) (ms : List PlainRecord) (r : PlainRecord) (l : PlainLayer) → absorbed d (ms ++ r ∷ []) l ≡ absorbing r d (absorbed d ms l)
+absorbed_more d [] r l = refl
+absorbed_more d (m ∷ ms) r l = absorbed_more d ms r (absorbing m d l)
+
+longer : (ms : List PlainRecord) (r : PlainRecord) → length (ms ++ r ∷ []) ≡ length ms + 1
+longer [] r = refl
+longer (m ∷ ms) r = (let h = longer ms r in let e : suc (length (ms ++ r ∷ [])) ≡ suc (length ms) + 1 = omega (arith, h) in e)
+
+pub taken_more : (setting : Setting) (f : PlainLeaf) (n : ℕ) (l v w : PlainLayer) (t u y : PlainTally) (r : PlainRecord) → AreTaken setting f n l t v u
+    → record_for setting (depth_limit - f.left) f.callee ((f.number +ℤ pos n) ∷ []) ≡ Some r → w ≡ absorbing r (depth_limit - f.left) v → y ≡ answering u → AreTaken setting f (n + 1) l t w y
+taken_more setting f n l v w t u y r h found layer tally =
+    let d : ℕ = depth_limit - f.left in
+    let sums : suc (t.reused + n) ≡ t.reused + (n + 1) = omega arith in
+    record {
+      members = h.members ++ r ∷ [];
+      many = longer h.members r ∙ ap (λ k. k + 1) h.many;
+      answer = answer_more setting d f.callee f.number h.members r h.answer (subst (λ (k : ℕ). record_for setting d f.callee ((f.number +ℤ pos k) ∷ []) ≡ Some r) (sym h.many) found);
+      layer = layer ∙ ap (absorbing r d) h.layer ∙ sym (absorbed_more d h.members r l);
+      tally = tally ∙ ap answering h.tally ∙ ap (λ (k : ℕ). record t { reused = k }) sums;
+    }
+
+-- one at a place, of which the tables hold all that was read, and which its procedures and the depth allow to answer
+pub alone_answers : (program : PlainChecked) (tables : Tables) (records : List PlainRecord) (d f p : ℕ) (n : ℤ) (r : PlainRecord) → 0 < d → AreSingle records → IsInStep tables records
+    → slice_get (map as_made records) p ≡ Some r → is_of f (n ∷ []) r ≡ true → is_fresh_at records p ≡ true
+    → (every (has_revision program.revisions) r.entered && nat_le (d + r.height) (suc depth_limit)) ≡ true
+    → record_for (setting_with program tables [] records) d f (n ∷ []) ≡ Some r
+alone_answers program tables records d f p n r deep single step there of fresh allowed =
+    let current : every (has_revision program.revisions) r.entered ≡ true = left_is (every (has_revision program.revisions) r.entered) (nat_le (d + r.height) (suc depth_limit)) allowed in
+    let fits : nat_le (d + r.height) (suc depth_limit) ≡ true = right_is (every (has_revision program.revisions) r.entered) (nat_le (d + r.height) (suc depth_limit)) allowed in
+    let valid : valid_at program.revisions tables d records r.procedure r.arguments ≡ Some r = leaf_valid program.revisions tables d records p r single step there fresh current fits in
+    sym (record_is (setting_with program tables [] records) d f (n ∷ []) deep)
+    ∙ subst (λ (g : ℕ). valid_at program.revisions tables d records g (n ∷ []) ≡ Some r) (of_procedure f (n ∷ []) r of)
+    (subst (λ (xs : List ℤ). valid_at program.revisions tables d records r.procedure xs ≡ Some r) (of_arguments f (n ∷ []) r of) valid)
+
+-- what one that answers has are values of the reducers' kinds
+pub answer_values : (program : PlainChecked) (tables : Tables) (records : List PlainRecord) (d f : ℕ) (xs : List ℤ) (r : PlainRecord) → 0 < d → HaveValues program.kinds records
+    → record_for (setting_with program tables [] records) d f xs ≡ Some r → AreValuesFrom 0 program.kinds r.contribution
+answer_values program tables records d f xs r deep values e =
+    valid_values program.revisions tables program.kinds d f xs records r deep values (sym (record_is (setting_with program tables [] records) d f xs deep ∙ e))
 
 -- ---- iterations
 

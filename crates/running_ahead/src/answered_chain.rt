@@ -13,9 +13,10 @@ ghost use Rattle.activations.specs.Given.{lent, loop_of};
 ghost use Rattle.answered_loops.specs.Answered.{answered_more};
 ghost use Rattle.own_statements.specs.Fills.{IsCounted};
 ghost use Rattle.own_statements.specs.Runs.{IsBody};
-ghost use Rattle.running_ahead.specs.AnsweredChains.{ArePassed, IsRefusedTurn};
+ghost use Rattle.running_ahead.specs.AnsweredChains.{ArePassed, AreTaken, IsRefusedTurn};
 ghost use Rattle.running_ahead.specs.Leaves.{AreRecorded, IsRefusedLeaf, arguments_then, gathered_of, plain_leaf};
 
+use crate::answered_row::{Passed, take_behind};
 use crate::leaf::Leaf;
 use crate::leaf_chain::{Stretch, record_chain};
 use activations::code::{LoopCode, instructions};
@@ -32,13 +33,6 @@ use view_pool::{Kit, View};
 #[derive(Clone, Copy)]
 struct Ahead {
     most: u32,
-    near: usize,
-}
-
-/// So many iterations are over, and the record of the next one may lie near that place.
-#[derive(Clone, Copy)]
-struct Passed {
-    count: u32,
     near: usize,
 }
 
@@ -207,16 +201,10 @@ fn go_on<V: View>(
 {
     let keeps = keeps_reads(machine);
     match answers_from(setting, leaf, ahead, keeps) {
-        Some(batch) => {
-            let passed = Passed {
-                count: batch.count,
-                near: batch.next,
-            };
-            match take_batch(machine, alloc, setting, leaf, batch) {
-                Ok(()) => Ok((passed, kit)),
-                Err(_) => Err(Some(kit)),
-            }
-        }
+        Some(batch) => match take_on(machine, alloc, setting, leaf, ahead, batch) {
+            Ok(passed) => Ok((passed, kit)),
+            Err(_) => Err(Some(kit)),
+        },
         None => record_next(machine, alloc, setting, leaf, ahead, kit),
     }
 }
@@ -266,6 +254,41 @@ fn answers_from<'a>(
         setting.tables,
         setting.program,
     )
+}
+
+/// What a batch has that answers iterations from that one on goes onto the loop's layer; behind one iteration so do those behind it that
+/// records answer one by one. How many are over. Where memory is refused, nothing is claimed of that layer but its kinds.
+#[inline(always)]
+fn take_on<V: View>(
+    machine: &mut Machine<V>,
+    alloc: Global,
+    setting: Setting<'_>,
+    leaf: Leaf<'_>,
+    ahead: Ahead,
+    batch: Batch<'_>,
+) -> Result<Passed, AllocError>
+    requires deep { 0 < depth_limit - leaf.left }
+    requires batch { IsBatchFor machine.old.layer.keeps setting.program.now setting.tables.now.tables
+        (depth_limit - leaf.left) setting.records.now leaf.callee (leaf.number ∷ []) 0 ahead.most batch.count batch.sum.now }
+    requires kinds { machine.old.layer.kinds ≡ setting.program.now.kinds }
+    requires monoids { All IsMonoid setting.program.now.kinds }
+    requires answers { HaveValues setting.program.now.kinds setting.records.now }
+    ensures taken { IfOk result (λ p. AreTaken (lent setting.entry) (plain_leaf leaf.entry) p.count
+        machine.old.layer machine.old.tally machine.new.layer machine.new.tally) }
+    ensures few { IfOk result (λ p. p.count ≤ ahead.most) }
+    ensures others { machine.new ≡ record machine.old { layer = machine.new.layer; tally = machine.new.tally } }
+    ensures opened { machine.new.tally.opened ≡ machine.old.tally.opened }
+    ensures kinds { machine.new.layer.kinds ≡ machine.old.layer.kinds }
+    ensures made { machine.new.tally.made ≡ machine.old.tally.made }
+{
+    let first = Passed {
+        count: batch.count,
+        near: batch.next,
+    };
+    match take_batch(machine, alloc, setting, leaf, batch) {
+        Ok(()) => take_behind(machine, alloc, setting, leaf, ahead.most, first),
+        Err(error) => Err(error),
+    }
 }
 
 /// What a batch has that answers iterations from that one on goes onto the loop's layer. Where memory is refused, that has other values, and

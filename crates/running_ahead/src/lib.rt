@@ -3,6 +3,7 @@
 
 pub mod ahead;
 mod answered_chain;
+mod answered_row;
 mod called_halves;
 pub mod came;
 mod children;
