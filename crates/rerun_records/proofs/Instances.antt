@@ -173,3 +173,16 @@ single_put (s ∷ ss) r h =
       | true ↦ λ t. (all_other r s ss t h.0, h.1)
       | false ↦ λ t. (others_put s ss r (other_way r s t) h.0, single_put ss r h.1)
     ] refl
+
+map_one : (rs : List PlainRecord) (r : PlainRecord) → map instance_number rs ++ instance_number r ∷ [] ≡ map instance_number (rs ++ r ∷ [])
+map_one [] r = refl
+map_one (x ∷ xs) r = ap (λ ns. instance_number x ∷ ns) (map_one xs r)
+
+pub numbers_behind : (rs new : List PlainRecord) (r : PlainRecord) (ns : List ℕ) (n : ℕ) → ns ≡ map instance_number rs → n ≡ instance_number r → new ≡ rs ++ r ∷ [] → ns ++ n ∷ [] ≡ map instance_number new
+numbers_behind rs new r ns n are is put =
+    ap (λ ms. ms ++ n ∷ []) are ∙ ap (λ m. map instance_number rs ++ m ∷ []) is ∙ map_one rs r ∙ ap (map instance_number) (sym put)
+
+pub record_within : (rs : List PlainRecord) (place : ℕ) (k : PlainRecord) → slice_get rs place ≡ Some k → place < length rs
+record_within [] place k e = absurd cc
+record_within (x ∷ xs) zero k e = omega arith
+record_within (x ∷ xs) (suc i) k e = (let h = record_within xs i k e in omega (arith, h))

@@ -11,7 +11,7 @@ use Rattle.record_theory.specs.Numbers.{with_numbers}
 use Rattle.rerun_records.specs.Blocks.{PlainBlock, is_some_fresh, is_fresh_at, AreLeaves, BlockFits, live_at, AllFit, is_place, IsFree, PlainBlocks, BlocksFit, BlocksRemain, IsBlock}
 use Rattle.record_theory.proofs.Members.{left_is, right_is, both}
 use Rattle.rerun_records.proofs.WithNumbers.{same_without_numbers}
-use Rattle.rerun_records.proofs.Homes.{or_right, nothing_live}
+use Rattle.rerun_records.proofs.Homes.{false_if, or_right, nothing_live}
 
 -- ---- a record at a place, and the same with nothing counted
 
@@ -95,6 +95,9 @@ none_fit records now e g f v = record {
   vast = λ n b l. absurd (no_live now.vast n b v l);
 }
 
+pub all_remain : (blocks : PlainBlocks) → BlocksRemain blocks blocks
+all_remain blocks = record { kinds = refl; fine = λ n b l. l; middle = λ n b l. l; wide = λ n b l. l; vast = λ n b l. l }
+
 -- ---- a record is put in, which is part of none
 
 put_elsewhere : (rs : List PlainRecord) (r : PlainRecord) (p : ℕ) (m : PlainRecord) → (p ≡ position_or_len (same_instance r) rs → ⊥) → slice_get rs p ≡ Some m → slice_get (put_record rs r) p ≡ Some m
@@ -122,6 +125,25 @@ pub put_fits : (old new : List PlainRecord) (r : PlainRecord) (place : ℕ) (now
 put_fits old new r place now before h rem fine middle wide vast e at =
     blocks_again old new now (remaining_fit old now before rem h) (λ n b l. put_again old new r place b.places e at (fine n b l)) (λ n b l. put_again old new r place b.places e at (middle n b l))
     (λ n b l. put_again old new r place b.places e at (wide n b l)) (λ n b l. put_again old new r place b.places e at (vast n b l))
+
+-- ---- a record of which something is counted is part of none
+
+no_place : (records : List PlainRecord) (place : ℕ) → is_fresh_at records place ≡ false → (ps : List ℕ) → every (is_fresh_at records) ps ≡ true → is_place ps place ≡ false
+no_place records place counted [] fresh = refl
+no_place records place counted (p ∷ ps) fresh =
+    let here : is_fresh_at records p ≡ true = left_is (is_fresh_at records p) (every (is_fresh_at records) ps) fresh in
+    let other : nat_eq place p ≡ false =
+    false_if (nat_eq place p) (λ e. true≢false (sym here ∙ ap (is_fresh_at records) (sym ((Decides-eqb place p).0 e)) ∙ counted)) in
+    ap (λ b. b || is_place ps place) other ∙ no_place records place counted ps (right_is (is_fresh_at records p) (every (is_fresh_at records) ps) fresh)
+
+pub counted_free : (records : List PlainRecord) (place : ℕ) (blocks : PlainBlocks) → is_fresh_at records place ≡ false → BlocksFit records blocks
+    → IsFree place blocks.fine × IsFree place blocks.middle × IsFree place blocks.wide × IsFree place blocks.vast
+counted_free records place blocks counted h = (
+  λ n b l. no_place records place counted b.places (h.fine n b l).fresh,
+  λ n b l. no_place records place counted b.places (h.middle n b l).fresh,
+  λ n b l. no_place records place counted b.places (h.wide n b l).fresh,
+  λ n b l. no_place records place counted b.places (h.vast n b l).fresh,
+)
 
 -- ---- a record gets another number
 

@@ -68,6 +68,17 @@ fresh_at (m ∷ ms) [] p n l e f = absurd (omega (arith, l))
 fresh_at (m ∷ ms) (x ∷ xs) zero n l e f = let same : m ≡ n = cc (e) in ap (λ k. nat_eq k 0) same ∙ f
 fresh_at (m ∷ ms) (x ∷ xs) (suc p) n l e f = fresh_at ms xs p n (omega (arith, l)) e f
 
+-- where it is another one something is
+pub counted_at : (ns : List ℕ) (rs : List PlainRecord) (p n : ℕ) → length ns ≡ length rs → slice_get ns p ≡ Some n → nat_eq n 0 ≡ false → is_fresh_at (with_numbers ns rs) p ≡ false
+counted_at [] rs p n l e f = absurd cc
+counted_at (m ∷ ms) [] p n l e f = absurd (omega (arith, l))
+counted_at (m ∷ ms) (x ∷ xs) zero n l e f = let same : m ≡ n = cc (e) in ap (λ k. nat_eq k 0) same ∙ f
+counted_at (m ∷ ms) (x ∷ xs) (suc p) n l e f = counted_at ms xs p n (omega (arith, l)) e f
+
+pub of_not : (b : Bool) → not b ≡ true → b ≡ false
+of_not true e = sym e
+of_not false e = refl
+
 -- ---- how they are put in
 
 -- the place of a record is within, or behind the others

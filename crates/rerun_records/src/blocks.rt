@@ -55,14 +55,12 @@ impl Blocks {
         }
     }
 
-    /// Drops the blocks that have the record at that place as part, and notes that it is due.
-    pub(crate) fn put_in(&mut self, place: usize)
-        ensures remain { BlocksRemain self.new self.old }
-        ensures free { IsFree place self.new.fine × IsFree place self.new.middle × IsFree place self.new.wide
-            × IsFree place self.new.vast }
+    /// Notes that the record at that place is due. It takes no memory.
+    #[inline(always)]
+    pub(crate) fn note_due(&mut self, place: usize)
+        ensures same { self.new ≡ self.old }
     {
         note(&mut self.due, place);
-        self.drop_at(place);
     }
 
     /// Drops the blocks that have the record at that place as part. It takes no memory.
@@ -129,25 +127,51 @@ impl Blocks {
         ensures answers { IfSome result (λ b.
             Answers program.now series.depth place series.counted series.most series.keeps b.now) }
     {
-        if let Some(block) = self.vast.at(place) {
-            if block.answers(place, series, program) && self.are_for(program.kinds()) {
-                return Some(block);
+        if !self.are_for(program.kinds()) || !fine.answers(place, series, program) {
+            return None;
+        }
+        match self.middle.at(place) {
+            Some(middle) => {
+                if middle.answers(place, series, program) {
+                    return Some(self.broadest(middle, place, series, program));
+                }
+                Some(fine)
             }
+            None => Some(fine),
         }
-        if let Some(block) = self.wide.at(place) {
-            if block.answers(place, series, program) && self.are_for(program.kinds()) {
-                return Some(block);
+    }
+
+    // The same, where that middle block answers: a wider one does only where a narrower one does, so most aren't looked at behind edits.
+    #[inline(always)]
+    fn broadest<'a>(
+        &'a self,
+        middle: &'a Block,
+        place: usize,
+        series: Series,
+        program: &Checked,
+    ) -> &'a Block
+        requires block { IsBlock program.now.kinds self.now middle.now }
+        requires answers { Answers program.now series.depth place series.counted series.most series.keeps middle.now }
+        ensures block { IsBlock program.now.kinds self.now result.now }
+        ensures answers { Answers program.now series.depth place series.counted series.most series.keeps result.now }
+    {
+        match self.wide.at(place) {
+            Some(wide) => {
+                if !wide.answers(place, series, program) {
+                    return middle;
+                }
+                match self.vast.at(place) {
+                    Some(vast) => {
+                        if vast.answers(place, series, program) {
+                            return vast;
+                        }
+                        wide
+                    }
+                    None => wide,
+                }
             }
+            None => middle,
         }
-        if let Some(block) = self.middle.at(place) {
-            if block.answers(place, series, program) && self.are_for(program.kinds()) {
-                return Some(block);
-            }
-        }
-        if fine.answers(place, series, program) && self.are_for(program.kinds()) {
-            return Some(fine);
-        }
-        None
     }
 
     /// The block of that width that may have the record at that place as part, where one has, for reducers of these kinds.

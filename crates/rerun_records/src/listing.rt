@@ -1,5 +1,5 @@
 // Records in a list, found by the numbers of their procedures and arguments, and put into it.
-ghost use Rattle.std.specs.Prelude.{◌≡◌, ◌<◌, ◌≤◌, ◌+◌, length, Some, None, IfSome, IfNone, map, true, slice_get};
+ghost use Rattle.std.specs.Prelude.{◌≡◌, ◌<◌, ◌≤◌, ◌+◌, length, Some, None, IfSome, IfNone, map, true, false, slice_get};
 ghost use Rattle.std.specs.Prelude.{option_copied, vec_capacity};
 ghost use Rattle.std.specs.List.{find, position_or_len};
 ghost use Rattle.place_chains.specs.Mixing.{number_of as mixed_number};
@@ -8,7 +8,7 @@ ghost use Rattle.record_theory.specs.Numbers.{with_numbers, HaveNumbers};
 ghost use Rattle.record_theory.specs.InStep.{IsInStep, ReadNow, reads_agree};
 ghost use Rattle.meaning.specs.Tables.{Tables as PlainTables};
 ghost use Rattle.record_theory.specs.Commits.{put_record, put_records, AreSingle};
-ghost use Rattle.rerun_records.specs.Blocks.{BlocksFit};
+ghost use Rattle.rerun_records.specs.Blocks.{BlocksFit, BlocksRemain, IsFree, is_fresh_at};
 ghost use Rattle.rerun_records.specs.Covers.{AreCovered};
 
 use crate::blocks::Blocks;
@@ -16,7 +16,7 @@ use crate::covers::Covers;
 use instance_records::record::Record;
 use place_chains::mixing::number_of;
 use place_chains::places::Places;
-use record_numbers::stale::clear;
+use record_numbers::stale::{clear, is_fresh};
 
 /// The record at that place.
 pub(crate) fn record_at(list: &[Record], place: usize) -> Option<&Record>
@@ -26,6 +26,7 @@ pub(crate) fn record_at(list: &[Record], place: usize) -> Option<&Record>
 }
 
 /// Whether the record is that of the procedure of that number with these arguments.
+#[inline(always)]
 pub(crate) fn is_of(record: &Record, procedure: usize, arguments: &[i64]) -> bool
     ensures of { result ≡ is_of procedure arguments.now record.now }
 {
@@ -59,13 +60,76 @@ pub(crate) fn found_in<'a>(
     None
 }
 
-/// Puts records in, for which there is room.
+/// The places of the records of the same procedures and arguments as these: of the first of them, up to one of which there is none, or for which
+/// memory is refused. Each is looked for first as far from the one before it as the sums of their arguments are apart. They are looked up
+/// before any is put in, in a loop that does nothing else: so several are fetched from memory at the same time.
+pub(crate) fn places_near(list: &[Record], places: &Places, records: &Vec<Record>) -> Vec<usize>
+    requires numbered { places.now.numbers ≡ map instance_number list.now }
+{
+    let mut found = Vec::new(*records.allocator());
+    if found.reserve(records.len()).is_err() {
+        return found;
+    }
+    let mut offset: usize = 0;
+    for record in records {
+        let sum = sum_of(record.arguments());
+        let place = place_by(list, places, offset.wrapping_add(sum), record);
+        if place >= list.len() {
+            return found;
+        }
+        if found.push(place).is_err() {
+            return found;
+        }
+        offset = place.wrapping_sub(sum);
+    }
+    found
+}
+
+// The place of the record of the same procedure and arguments, which is looked for at the near place first, or the one behind the others.
+#[inline(always)]
+fn place_by(list: &[Record], places: &Places, near: usize, made: &Record) -> usize
+    requires numbered { places.now.numbers ≡ map instance_number list.now }
+{
+    match record_at(list, near) {
+        Some(record) => {
+            if is_of(record, made.procedure(), made.arguments()) {
+                return near;
+            }
+            found_place(list, places, made)
+        }
+        None => found_place(list, places, made),
+    }
+}
+
+// The same by the number of its procedure and arguments.
+#[inline(never)]
+fn found_place(list: &[Record], places: &Places, made: &Record) -> usize
+    requires numbered { places.now.numbers ≡ map instance_number list.now }
+{
+    let number = number_of(made.procedure(), made.arguments());
+    match found_in(list, places, number, made.procedure(), made.arguments()) {
+        Some((place, _)) => place,
+        None => list.len(),
+    }
+}
+
+// The place of that number among these, if there is one.
+#[inline(always)]
+fn near_at(near: &[usize], number: usize) -> usize {
+    match near.get(number) {
+        Some(place) => *place,
+        None => usize::MAX,
+    }
+}
+
+/// Puts records in, for which there is room. Each is looked for at the place that is given for it first.
 pub(crate) fn put_all(
     list: &mut Vec<Record>,
     places: &mut Places,
     numbers: &mut Vec<u32>,
     blocks: &mut Blocks,
     covers: &mut Covers,
+    near: &[usize],
     records: Vec<Record>,
 )
     requires room { length list.old.items + length records.items ≤ vec_capacity list.old }
@@ -87,18 +151,22 @@ pub(crate) fn put_all(
     ensures in_step { (tables : PlainTables) → IsInStep tables (with_numbers numbers.old.items list.old.items)
         → ReadNow tables records.items → IsInStep tables (with_numbers numbers.new.items list.new.items) }
 {
+    let mut count: usize = 0;
     for record in records {
-        put(list, places, numbers, blocks, covers, record);
+        let place = near_at(near, count);
+        put(list, places, numbers, blocks, covers, place, record);
+        count = count.wrapping_add(1);
     }
 }
 
-// Puts a record in, for which there is room.
+// Puts a record in, for which there is room, and which may have the near place.
 fn put(
     list: &mut Vec<Record>,
     places: &mut Places,
     numbers: &mut Vec<u32>,
     blocks: &mut Blocks,
     covers: &mut Covers,
+    near: usize,
     made: Record,
 )
     requires room { length list.old.items < vec_capacity list.old }
@@ -124,11 +192,91 @@ fn put(
         → reads_agree tables made ≡ true → IsInStep tables (with_numbers numbers.new.items list.new.items) }
 {
     made.as_made();
-    let number = number_of(made.procedure(), made.arguments());
-    let place = place_for(list, places, number, &made);
+    let (number, place) = place_near(list, places, near, &made);
+    free(blocks, list, numbers, place);
     put_at(list, places, covers, number, place, made);
-    blocks.put_in(place);
     clear(numbers, place);
+}
+
+// Notes that the record at that place is due, and drops the blocks that have it as part. Of which something is counted it is part of none.
+#[inline(always)]
+fn free(blocks: &mut Blocks, _list: &[Record], numbers: &[u32], place: usize)
+    requires fit { BlocksFit (with_numbers numbers.now _list.now) blocks.old }
+    requires numbers { HaveNumbers numbers.now _list.now }
+    ensures remain { BlocksRemain blocks.new blocks.old }
+    ensures free { IsFree place blocks.new.fine × IsFree place blocks.new.middle × IsFree place blocks.new.wide
+        × IsFree place blocks.new.vast }
+{
+    blocks.note_due(place);
+    if is_counted(_list, numbers, place) {
+        return;
+    }
+    blocks.drop_at(place);
+}
+
+// Whether there is a record at that place of which something is counted.
+#[inline(always)]
+fn is_counted(_list: &[Record], numbers: &[u32], place: usize) -> bool
+    requires numbers { HaveNumbers numbers.now _list.now }
+    ensures counted { result ≡ true → is_fresh_at (with_numbers numbers.now _list.now) place ≡ false }
+{
+    match numbers.get(place) {
+        Some(number) => !is_fresh(*number),
+        None => false,
+    }
+}
+
+// The sum of these numbers, as far as it fits.
+#[inline(always)]
+fn sum_of(numbers: &[i64]) -> usize {
+    let mut sum: usize = 0;
+    for number in numbers {
+        sum = sum.wrapping_add(number.cast_unsigned() as usize);
+    }
+    sum
+}
+
+// The place of the record of the same procedure and arguments, which is looked for at the near place first, or the one behind the others, and
+// then the number of its procedure and arguments too.
+#[inline(always)]
+fn place_near(list: &[Record], places: &Places, near: usize, made: &Record) -> (u32, usize)
+    requires numbered { places.now.numbers ≡ map instance_number list.now }
+    requires as_made { map as_made list.now ≡ list.now }
+    requires single { AreSingle list.now }
+    ensures place { result.1 ≡ position_or_len (same_instance made.now) list.now }
+    ensures number { length list.now ≤ result.1 → result.0 ≡ instance_number made.now }
+{
+    if is_there(list, near, made) {
+        return (0, near);
+    }
+    place_by_number(list, places, made)
+}
+
+// Whether the record at that place is of the same procedure and arguments.
+#[inline(always)]
+fn is_there(list: &[Record], place: usize, made: &Record) -> bool
+    requires as_made { map as_made list.now ≡ list.now }
+    requires single { AreSingle list.now }
+    ensures there { result ≡ true → place ≡ position_or_len (same_instance made.now) list.now }
+    ensures within { result ≡ true → place < length list.now }
+{
+    match record_at(list, place) {
+        Some(record) => is_of(record, made.procedure(), made.arguments()),
+        None => false,
+    }
+}
+
+// The number of a record's procedure and arguments, and the place of the record of the same, or the one behind the others.
+#[inline(never)]
+fn place_by_number(list: &[Record], places: &Places, made: &Record) -> (u32, usize)
+    requires numbered { places.now.numbers ≡ map instance_number list.now }
+    requires as_made { map as_made list.now ≡ list.now }
+    requires single { AreSingle list.now }
+    ensures place { result.1 ≡ position_or_len (same_instance made.now) list.now }
+    ensures number { result.0 ≡ instance_number made.now }
+{
+    let number = number_of(made.procedure(), made.arguments());
+    (number, place_for(list, places, number, made))
 }
 
 /// The place of the record of the same procedure and arguments, or the one behind the others.
@@ -146,7 +294,7 @@ pub(crate) fn place_for(list: &[Record], places: &Places, number: u32, made: &Re
     }
 }
 
-// Puts a record at its place, or behind the others, for which there is room.
+// Puts a record at its place, or behind the others under that number, for which there is room.
 fn put_at(
     list: &mut Vec<Record>,
     places: &mut Places,
@@ -158,7 +306,7 @@ fn put_at(
     requires room { length list.old.items < vec_capacity list.old }
     requires room_below { length list.old.items < places.old.room }
     requires numbered { places.old.numbers ≡ map instance_number list.old.items }
-    requires number { number ≡ instance_number made }
+    requires number { length list.old.items ≤ place → number ≡ instance_number made }
     requires place { place ≡ position_or_len (same_instance made) list.old.items }
     requires covered { AreCovered list.old.items covers.old }
     ensures put { list.new.items ≡ put_record list.old.items made }

@@ -23,7 +23,7 @@ use crate::block::Block;
 use crate::blocks::{Blocks, Width};
 use crate::covers::Covers;
 use crate::keeping::keep_last;
-use crate::listing::{found_in, is_of, put_all, record_at};
+use crate::listing::{found_in, is_of, places_near, put_all, record_at};
 use crate::series::Series;
 use crate::telling::tell;
 use evaluation::note::Note;
@@ -198,6 +198,7 @@ impl Records {
     }
 
     // The record at that place, where it is valid now for an instance at that depth.
+    #[inline(always)]
     fn valid_in<'a>(
         &self,
         place: usize,
@@ -461,12 +462,14 @@ impl Records {
         self.places.reserve(room)?;
         self.numbers.reserve(room)?;
         self.blocks.make_room(records.len());
+        let near = places_near(&self.list, &self.places, &records);
         put_all(
             &mut self.list,
             &mut self.places,
             &mut self.numbers,
             &mut self.blocks,
             &mut self.covers,
+            &near,
             records,
         );
         Ok(())

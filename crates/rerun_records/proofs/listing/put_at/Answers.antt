@@ -1,8 +1,9 @@
-use Rattle.std.proofs.Common.{rules, ◌∙◌, ◌<◌, ◌≤◌, [], ◌∷◌, length, sym, subst}
+use Rattle.std.proofs.Common.{rules, ◌≡◌, ◌∙◌, ◌<◌, ◌≤◌, [], ◌∷◌, length, sym, subst}
 use Rattle.rerun_records.specs.Covers.{AreCovered, AreSameBut}
 use Rattle.rerun_records.proofs.Covering.{set_same_but}
 use Rattle.rerun_records.proofs.Passing.{appended_covered}
-use Rattle.rerun_records.proofs.Instances.{set_is_put, set_numbers, push_is_put}
+use Rattle.record_theory.specs.Record.{instance_number}
+use Rattle.rerun_records.proofs.Instances.{set_is_put, set_numbers, push_is_put, numbers_behind}
 use Rattle.rerun_records.proofs.listing.put_at.Goals as goal
 
 pub returns-then-place-len-clause-put : goal.returns-then-place-len-clause-put
@@ -29,3 +30,9 @@ returns-then-place-len-clause-covered c =
 pub returns-else-place-len-clause-covered : goal.returns-else-place-len-clause-covered
 returns-else-place-len-clause-covered c =
     subst (λ rs. AreCovered rs c.args.covers.now) (sym c.push_reserved.ensures.items) (appended_covered c.args.list.now.items (c.args.made ∷ []) c.args.covers.now c.requires.covered)
+
+pub returns-else-place-len-clause-numbered : goal.returns-else-place-len-clause-numbered
+returns-else-place-len-clause-numbered c =
+    let behind : length c.args.list.now.items ≤ c.args.place = search rules in
+    let number : c.args.number ≡ instance_number c.args.made = c.requires.number behind in
+    c.push.ensures.pushed ∙ numbers_behind c.args.list.now.items c.push_reserved.new.self.items c.args.made c.args.places.now.numbers c.args.number c.requires.numbered number c.push_reserved.ensures.items
