@@ -236,7 +236,7 @@ both_covered d pair spans n g h =
 pub put_one : (old new : List Span) (s : Span) (note : Note) → new ≡ put_span old s → is_covered_by old note ≡ true → is_covered_by new note ≡ true
 put_one old new s note e h = subst (λ ss. is_covered_by ss note ≡ true) (sym e) (keeps old s note h)
 
-put_holds : (old new : List Span) (s : Span) (reading : Reading) → s ≡ span_of reading → new ≡ put_span old s → is_covered_by new (note_of reading) ≡ true
+pub put_holds : (old new : List Span) (s : Span) (reading : Reading) → s ≡ span_of reading → new ≡ put_span old s → is_covered_by new (note_of reading) ≡ true
 put_holds old new s reading e h =
     subst (λ ss. is_covered_by ss (note_of reading) ≡ true) (sym h) (adds old s (note_of reading) (subst (λ z. covers (note_of reading) z ≡ true) (sym e) (read_covered reading)))
 

@@ -11,7 +11,7 @@ use Rattle.instance_records.specs.declared.lines.Lines.{Lines}
 use Rattle.instance_records.specs.declared.readings.Node.{Node, out-Node}
 use Rattle.instance_records.specs.declared.readings.Below.{Below, out-Below}
 use Rattle.instance_records.specs.declared.readings.Held.{Held}
-use Rattle.instance_records.specs.declared.readings.Held.TheVariants.{Two, Shared}
+use Rattle.instance_records.specs.declared.readings.Held.TheVariants.{Nothing, One, Two, Shared}
 use Rattle.instance_records.specs.Readings.{below_told}
 
 -- it is of that cell, with one value or another
@@ -48,5 +48,7 @@ abbrev pub IsFullNode : Node → Type 0
 IsFullNode n = IsFullBelow (out-Node n).below
 
 abbrev pub IsFullIn : Held → Type 0
+IsFullIn Nothing = Unit {0}
+IsFullIn (One reading) = Unit {0}
 IsFullIn (Two pair) = Unit {0}
 IsFullIn (Shared node) = IsFullNode (arc_value node)

@@ -1,5 +1,5 @@
 -- What an instance and those below it have read, one after another, and whether the spans of rows there hold it.
-use Rattle.std.specs.Prelude.{Bool, true, false, ◌&&◌, List, [], ◌++◌, map, Option, Some, None, Box}
+use Rattle.std.specs.Prelude.{Bool, true, false, ◌&&◌, List, [], ◌∷◌, ◌++◌, map, Option, Some, None, Box}
 use Rattle.std.specs.declared.alloc.Global.{Global}
 use Rattle.std.specs.declared.sync.Arc.{Arc}
 use Rattle.std.specs.Arc.{arc_value}
@@ -11,7 +11,7 @@ use Rattle.meaning.specs.Every.{every}
 use Rattle.instance_records.specs.declared.readings.Node.{Node, Node-F, fold-Node}
 use Rattle.instance_records.specs.declared.readings.Below.{Below, Below-F, fold-Below}
 use Rattle.instance_records.specs.declared.readings.Held.{Held}
-use Rattle.instance_records.specs.declared.readings.Held.TheVariants.{Two, Shared}
+use Rattle.instance_records.specs.declared.readings.Held.TheVariants.{Nothing, One, Two, Shared}
 use Rattle.evaluation.specs.Short.{note_of}
 use Rattle.instance_records.specs.ShortLists.{items_in}
 use Rattle.instance_records.specs.Spans.{is_covered_by}
@@ -78,9 +78,13 @@ is_covered_below (Some b) = (below_told b.value).1
 
 -- the notes that lie by themselves, or in a node that is shared
 abbrev pub notes_in : Held → List Note
+notes_in Nothing = []
+notes_in (One reading) = note_of reading ∷ []
 notes_in (Two pair) = map note_of pair
 notes_in (Shared node) = shared_notes node
 
 abbrev pub is_covered_in : Held → Bool
+is_covered_in Nothing = true
+is_covered_in (One reading) = true
 is_covered_in (Two pair) = true
 is_covered_in (Shared node) = is_covered_share node

@@ -10,6 +10,7 @@ pub mod hull;
 pub mod key;
 mod lines;
 pub mod narrowing;
+mod own;
 mod pairs;
 pub mod readings;
 pub mod record;

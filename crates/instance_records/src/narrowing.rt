@@ -9,7 +9,8 @@ ghost use Rattle.record_theory.specs.InStep.{is_apart};
 ghost use Rattle.record_theory.specs.Counts.{how_many};
 ghost use Rattle.record_theory.specs.Same.{is_read, same_note};
 
-use crate::readings::{Node, has_own, node_has};
+use crate::own::has_own;
+use crate::readings::{Node, node_has};
 use crate::touching::{are_own_touched, node_is_touched, rests_on};
 use evaluation::note::Note;
 use evaluation::reading::Reading;

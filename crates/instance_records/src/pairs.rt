@@ -1,5 +1,5 @@
-// Readings that lie in their records, two in each, in one list.
-ghost use Rattle.std.specs.Prelude.{◌≡◌, ◌++◌, IfOk, map};
+// Readings that lie in their records, two at most in each, in one list.
+ghost use Rattle.std.specs.Prelude.{◌≡◌, ◌++◌, [], IfOk, map, true};
 ghost use Rattle.evaluation.specs.Short.{note_of};
 ghost use Rattle.instance_records.specs.Readings.{all_of};
 
@@ -7,7 +7,7 @@ use crate::readings::Readings;
 use evaluation::reading::Reading;
 use std::alloc::{AllocError, Global};
 
-/// Whether these are some, of two readings each that lie by themselves.
+/// Whether these are some, of no more than two readings each, which lie by themselves.
 pub(crate) fn are_pairs(parts: &[Readings]) -> bool {
     for part in parts {
         if !part.is_pair() {
@@ -17,7 +17,19 @@ pub(crate) fn are_pairs(parts: &[Readings]) -> bool {
     !parts.is_empty()
 }
 
-/// Copies of these readings, then of those of the parts; refused where one of them isn't of two by themselves.
+/// Whether nothing was read in any of these.
+pub(crate) fn are_nothing(parts: &[Readings]) -> bool
+    ensures none { result ≡ true → all_of parts.now ≡ [] }
+{
+    for part in parts {
+        if !part.is_nothing() {
+            return false;
+        }
+    }
+    true
+}
+
+/// Copies of these readings, then of those of the parts; refused where one of them lies in a node.
 pub(crate) fn with_pairs(
     alloc: Global,
     own: &[Reading],

@@ -18,9 +18,10 @@ ghost use Rattle.record_theory.specs.Same.{is_read, same_note};
 use crate::below::{make_below, put_node};
 use crate::full::Full;
 use crate::narrowing::{how_many, how_many_own, lowest, touched_own};
-use crate::pairs::{are_pairs, with_pairs};
+use crate::own::{has_own, is_cell};
+use crate::pairs::{are_nothing, are_pairs, with_pairs};
 use crate::short_list::ShortList;
-use crate::spans::{Span, cover_all, first_row, may_have, put_pair};
+use crate::spans::{Span, cover_all, first_row, may_have, put_one, put_pair};
 use crate::touching::{
     are_own_touched, are_sums, has_line, may_have_sums, node_first_row, node_has_row,
     node_is_touched, node_lies_in,
@@ -57,9 +58,11 @@ pub(crate) struct Below {
     pub(crate) full: Full,
 }
 
-/// Two readings with none below them, which take no memory of their own, or a node.
+/// Up to two readings with none below them, which take no memory of their own, or a node.
 #[derive(Drop)]
 pub(crate) enum Held {
+    Nothing,
+    One(Reading),
     Two([Reading; 2]),
     Shared(Arc<Node>),
 }
@@ -93,12 +96,32 @@ impl Readings {
     ) -> Result<Readings, AllocError>
         ensures made { IfOk result (λ r. r ≡ map note_of (items_in own) ++ all_of parts.items) }
     {
+        if are_nothing(&parts) {
+            return Readings::of_own(alloc, own);
+        }
         if are_pairs(&parts) {
             return Readings::of_pairs(alloc, own, parts);
         }
-        match own {
-            ShortList::Two(pair) => Readings::of_pair(alloc, pair, parts),
-            other => Readings::of_list(alloc, other, parts),
+        Readings::of_list(alloc, own, parts)
+    }
+
+    /// No readings. It takes no memory.
+    #[inline(always)]
+    pub fn nothing() -> Readings
+        ensures none { result ≡ [] }
+    {
+        Readings {
+            held: Held::Nothing,
+        }
+    }
+
+    /// One reading of an instance that has none below it. It takes no memory.
+    #[inline(always)]
+    pub fn of_one(reading: Reading) -> Readings
+        ensures same { result ≡ note_of reading ∷ [] }
+    {
+        Readings {
+            held: Held::One(reading),
         }
     }
 
@@ -125,42 +148,62 @@ impl Readings {
         Readings::of_list(alloc, ShortList::new(all), Vec::new(alloc))
     }
 
-    /// Whether these are two readings that lie by themselves.
+    // The readings of an instance that has none below it.
+    fn of_own(alloc: Global, own: ShortList<Reading>) -> Result<Readings, AllocError>
+        ensures made { IfOk result (λ r. r ≡ map note_of (items_in own)) }
+    {
+        match own {
+            ShortList::One(reading) => Ok(Readings::of_one(reading)),
+            ShortList::Two(pair) => Ok(Readings::of_two(pair)),
+            ShortList::Several(items) => Readings::of_several(alloc, items),
+        }
+    }
+
+    // As many readings as there are, of an instance that has none below it.
+    fn of_several(alloc: Global, items: Vec<Reading>) -> Result<Readings, AllocError>
+        ensures made { IfOk result (λ r. r ≡ map note_of items.items) }
+    {
+        if items.is_empty() {
+            return Ok(Readings::nothing());
+        }
+        Readings::of_list(alloc, ShortList::new(items), Vec::new(alloc))
+    }
+
+    /// Whether nothing was read, so that no memory is taken.
+    #[inline(always)]
+    pub(crate) fn is_nothing(&self) -> bool
+        ensures none { result ≡ true → self.now ≡ [] }
+    {
+        match &self.held {
+            Held::Nothing => true,
+            _ => false,
+        }
+    }
+
+    /// Whether these are no more than two readings, which lie by themselves.
     #[inline(always)]
     pub fn is_pair(&self) -> bool {
         match &self.held {
-            Held::Two(_) => true,
+            Held::Nothing | Held::One(_) | Held::Two(_) => true,
             Held::Shared(_) => false,
         }
     }
 
-    /// Puts copies of these two readings behind others; refused where they lie in a node.
+    /// Puts copies of these readings, two at most, behind others; refused where they lie in a node.
     #[inline(always)]
     pub(crate) fn put_pair(&self, all: &mut Vec<Reading>) -> Result<(), AllocError>
         ensures put { OnOk result (map note_of all.new.items ≡ map note_of all.old.items ++ self.now) }
     {
         match &self.held {
+            Held::Nothing => Ok(()),
+            Held::One(reading) => all.extend_from_slice(slice::from_ref(reading)),
             Held::Two(pair) => all.extend_from_slice(pair),
             Held::Shared(_) => Err(AllocError),
         }
     }
 
-    // Two readings, then those of the parts.
-    fn of_pair(
-        alloc: Global,
-        pair: [Reading; 2],
-        parts: Vec<Readings>,
-    ) -> Result<Readings, AllocError>
-        ensures made { IfOk result (λ r. r ≡ map note_of pair ++ all_of parts.items) }
-    {
-        if parts.is_empty() {
-            return Ok(Readings::of_two(pair));
-        }
-        Readings::of(alloc, ShortList::Two(pair), parts)
-    }
-
     // As many readings as there are, then those of the parts.
-    pub(crate) fn of_list(
+    fn of_list(
         alloc: Global,
         mut own: ShortList<Reading>,
         parts: Vec<Readings>,
@@ -213,6 +256,8 @@ impl Readings {
         ensures same { IfOk result (λ r. r ≡ self.now) }
     {
         match &self.held {
+            Held::Nothing => Ok(Readings::nothing()),
+            Held::One(reading) => Ok(Readings::of_one(*reading)),
             Held::Two(pair) => Ok(Readings::of_two(*pair)),
             Held::Shared(node) => Ok(Readings {
                 held: Held::Shared(Arc::try_clone(node)?),
@@ -227,6 +272,14 @@ impl Readings {
         ensures full { IfOk result (λ n. IsFullNode (arc_value n)) }
     {
         match self.held {
+            Held::Nothing => {
+                let own = ShortList::new(Vec::new(alloc));
+                Ok(Arc::new(alloc, Node { own, below: None })?)
+            }
+            Held::One(reading) => {
+                let own = ShortList::One(reading);
+                Ok(Arc::new(alloc, Node { own, below: None })?)
+            }
             Held::Two(pair) => {
                 let own = ShortList::Two(pair);
                 Ok(Arc::new(alloc, Node { own, below: None })?)
@@ -240,6 +293,8 @@ impl Readings {
         ensures agree { result ≡ every (note_agrees tables.now.tables) self.now }
     {
         match &self.held {
+            Held::Nothing => true,
+            Held::One(reading) => reads_agree(slice::from_ref(reading), tables),
             Held::Two(pair) => reads_agree(pair, tables),
             Held::Shared(node) => node_agrees(node, tables),
         }
@@ -252,6 +307,8 @@ impl Readings {
         ensures apart { result ≡ false → every (is_apart changes.now) self.now ≡ true }
     {
         match &self.held {
+            Held::Nothing => false,
+            Held::One(reading) => are_own_touched(slice::from_ref(reading), changes),
             Held::Two(pair) => are_own_touched(pair, changes),
             Held::Shared(node) => node_is_touched(node, changes),
         }
@@ -262,6 +319,8 @@ impl Readings {
         ensures has { result ≡ is_read self.now note.now }
     {
         match &self.held {
+            Held::Nothing => false,
+            Held::One(reading) => has_own(slice::from_ref(reading), note),
             Held::Two(pair) => has_own(pair, note),
             Held::Shared(node) => node_has(node, note),
         }
@@ -276,6 +335,11 @@ impl Readings {
         ensures few { result.0 ≤ length lost.now }
     {
         match &self.held {
+            Held::Nothing => (how_many_own(&[], lost), how_many_own(&[], won)),
+            Held::One(reading) => {
+                let own = slice::from_ref(reading);
+                (how_many_own(own, lost), how_many_own(own, won))
+            }
             Held::Two(pair) => (how_many_own(pair, lost), how_many_own(pair, won)),
             Held::Shared(node) => how_many(lowest(node, change), change, lost, won),
         }
@@ -288,6 +352,8 @@ impl Readings {
             → is_read (map note_of own.now) note ≡ is_read self.now note) }
     {
         match &self.held {
+            Held::Nothing => Some(&[]),
+            Held::One(reading) => Some(slice::from_ref(reading)),
             Held::Two(pair) => Some(pair),
             Held::Shared(node) => touched_own(lowest(node, change), change),
         }
@@ -296,7 +362,7 @@ impl Readings {
     /// The turns from there down to readings of one instance's own that may rest on the change, as `own_by` takes them.
     pub fn way_to(&self, change: &(usize, i64)) -> u64 {
         match &self.held {
-            Held::Two(_) => HERE,
+            Held::Nothing | Held::One(_) | Held::Two(_) => HERE,
             Held::Shared(node) => way_to(node, change),
         }
     }
@@ -308,6 +374,8 @@ impl Readings {
             → is_read (map note_of result.now) note ≡ true → is_read self.now note ≡ true }
     {
         match &self.held {
+            Held::Nothing => &[],
+            Held::One(reading) => slice::from_ref(reading),
             Held::Two(pair) => pair,
             Held::Shared(node) => own_by(node, turns),
         }
@@ -320,6 +388,8 @@ impl Readings {
             → is_read self.now (Sum table column value) ≡ false }
     {
         match &self.held {
+            Held::Nothing => false,
+            Held::One(reading) => are_sums(slice::from_ref(reading)),
             Held::Two(pair) => are_sums(pair),
             Held::Shared(node) => may_have_sums(node),
         }
@@ -332,7 +402,7 @@ impl Readings {
         ensures have { result ≡ true → HasCells self.now change.now.0 change.now.1 first end }
     {
         match &self.held {
-            Held::Two(_) => false,
+            Held::Nothing | Held::One(_) | Held::Two(_) => false,
             Held::Shared(node) => has_line(node, change, first, end),
         }
     }
@@ -342,6 +412,8 @@ impl Readings {
         ensures lie { result ≡ true → every (is_covered_by spans.now) self.now ≡ true }
     {
         match &self.held {
+            Held::Nothing => true,
+            Held::One(reading) => cover_all(spans, slice::from_ref(reading)),
             Held::Two(pair) => cover_all(spans, pair),
             Held::Shared(node) => node_lies_in(node, spans),
         }
@@ -350,7 +422,7 @@ impl Readings {
     /// Whether what instances below have read has the row with which the other begins.
     pub fn reach(&self, other: &Readings) -> bool {
         match &self.held {
-            Held::Two(_) => false,
+            Held::Nothing | Held::One(_) | Held::Two(_) => false,
             Held::Shared(node) => node_has_row(node, other.first_row()),
         }
     }
@@ -358,6 +430,8 @@ impl Readings {
     // A row that was read, by the number of its table and its own; none where all of a table's were.
     fn first_row(&self) -> Option<(usize, i64)> {
         match &self.held {
+            Held::Nothing => None,
+            Held::One(reading) => first_row(slice::from_ref(reading), &[]),
             Held::Two(pair) => first_row(pair, &[]),
             Held::Shared(node) => node_first_row(node),
         }
@@ -370,6 +444,8 @@ impl Readings {
         ensures put { OnOk result (every (is_covered_by spans.new.items) self.now ≡ true) }
     {
         match &self.held {
+            Held::Nothing => Ok(()),
+            Held::One(reading) => put_one(reading, spans),
             Held::Two(pair) => put_pair(pair, spans),
             Held::Shared(node) => put_node(node, spans),
         }
@@ -381,6 +457,8 @@ impl Readings {
     {
         let mut notes = Vec::new(alloc);
         match &self.held {
+            Held::Nothing => {}
+            Held::One(reading) => put_own(slice::from_ref(reading), &mut notes)?,
             Held::Two(pair) => put_own(pair, &mut notes)?,
             Held::Shared(node) => put_notes(node, &mut notes)?,
         }
@@ -422,102 +500,6 @@ fn parts_have(parts: &[Arc<Node>], note: &Note) -> bool
     false
 }
 
-/// Whether that is one of these readings.
-pub(crate) fn has_own(own: &[Reading], note: &Note) -> bool
-    ensures has { result ≡ is_read (map note_of own.now) note.now }
-{
-    match note {
-        Note::Cell {
-            table,
-            row,
-            column,
-            value,
-        } => have_cell(own, *table, *row, *column, *value),
-        Note::Sum {
-            table,
-            column,
-            value,
-        } => have_sum(own, *table, *column, *value),
-        _ => have_other(own, note),
-    }
-}
-
-// Whether one of these readings is of that cell with that value. No notes are made of them, here and below.
-fn have_cell(own: &[Reading], table: usize, row: i64, column: usize, value: i64) -> bool
-    ensures have { result ≡ is_read (map note_of own.now) (Cell table row column value) }
-{
-    for reading in own {
-        if is_cell(reading, table, row, column, value) {
-            return true;
-        }
-    }
-    false
-}
-
-// Whether one of these readings is of that sum.
-fn have_sum(own: &[Reading], table: usize, column: usize, value: i64) -> bool
-    ensures have { result ≡ is_read (map note_of own.now) (Sum table column value) }
-{
-    for reading in own {
-        if is_sum(reading, table, column, value) {
-            return true;
-        }
-    }
-    false
-}
-
-// Whether one of these readings is that one.
-fn have_other(own: &[Reading], note: &Note) -> bool
-    ensures have { result ≡ is_read (map note_of own.now) note.now }
-{
-    for reading in own {
-        if is_same(note, &reading.note()) {
-            return true;
-        }
-    }
-    false
-}
-
-// Whether the reading is of that cell with that value.
-#[inline(always)]
-fn is_cell(reading: &Reading, table: usize, row: i64, column: usize, value: i64) -> bool
-    ensures cell { result ≡ same_note (Cell table row column value) (note_of reading.now) }
-{
-    match reading {
-        Reading::Cell {
-            column: under,
-            table: of,
-            row: at,
-            value: held,
-        } => {
-            // The value differs most often, so it is compared first.
-            if value != *held {
-                return false;
-            }
-            if column != usize::from(*under) {
-                return false;
-            }
-            row == i64::from(*at) && table == usize::from(*of)
-        }
-        _ => false,
-    }
-}
-
-// Whether the reading is of that sum.
-#[inline(always)]
-fn is_sum(reading: &Reading, table: usize, column: usize, value: i64) -> bool
-    ensures sum { result ≡ same_note (Sum table column value) (note_of reading.now) }
-{
-    match reading {
-        Reading::Sum {
-            column: under,
-            table: of,
-            value: held,
-        } => table == usize::from(*of) && (column == usize::from(*under) && value == *held),
-        _ => false,
-    }
-}
-
 /// Whether these readings are those, one by one.
 pub fn are_same(own: &[Reading], others: &[Reading]) -> bool
     ensures same { result ≡ true → map note_of own.now ≡ map note_of others.now }
@@ -557,7 +539,7 @@ fn is_like(reading: &Reading, other: &Reading) -> bool
 
 // Whether two notes are the same.
 #[tactic(auto, using(record_theory::proofs::Same::derived_same))]
-fn is_same(note: &Note, other: &Note) -> bool
+pub(crate) fn is_same(note: &Note, other: &Note) -> bool
     ensures same { result ≡ same_note note.now other.now }
 {
     *note == *other

@@ -63,6 +63,6 @@ impl Several {
     pub fn finish(self, alloc: Global) -> Result<Readings, AllocError>
         ensures same { IfOk result (λ r. r ≡ self) }
     {
-        Readings::of_list(alloc, ShortList::new(self.own), self.parts)
+        Readings::new(alloc, ShortList::new(self.own), self.parts)
     }
 }

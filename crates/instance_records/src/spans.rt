@@ -285,6 +285,16 @@ fn turn_to(run: &mut Span, reading: &Reading, spans: &mut Vec<Span>) -> Result<(
     Ok(())
 }
 
+/// Joins spans with the row of one reading.
+pub(crate) fn put_one(reading: &Reading, spans: &mut Vec<Span>) -> Result<(), AllocError>
+    ensures kept { OnOk result ((note : PlainNote) → is_covered_by spans.old.items note ≡ true
+        → is_covered_by spans.new.items note ≡ true) }
+    ensures put { OnOk result (is_covered_by spans.new.items (note_of reading.now) ≡ true) }
+{
+    let span = Span::new(reading);
+    put_span(&span, spans)
+}
+
 /// Joins spans with the rows of two readings, which most often are of one row.
 pub(crate) fn put_pair(pair: &[Reading; 2], spans: &mut Vec<Span>) -> Result<(), AllocError>
     ensures kept { OnOk result ((note : PlainNote) → is_covered_by spans.old.items note ≡ true

@@ -2,7 +2,7 @@ use Rattle.std.proofs.Common.{◌≡◌, drop, map}
 use Rattle.evaluation.specs.declared.note.Note.TheVariants.{Cell}
 use Rattle.evaluation.specs.Short.{note_of}
 use Rattle.record_theory.specs.Same.{is_read}
-use Rattle.instance_records.proofs.readings.have_cell.Given as goal
+use Rattle.instance_records.proofs.own.have_cell.Given as goal
 
 abbrev pub invariant-loop-reading : goal.invariant-loop-reading
 invariant-loop-reading l = is_read (map note_of l.own) (Cell l.table l.row l.column l.value) ≡ is_read (map note_of (drop l.reading-index l.own)) (Cell l.table l.row l.column l.value)
