@@ -3,7 +3,7 @@ use denote.Param.Send.{IsSend, IsSync, sendable}
 use Rattle.std.proofs.Crossing.{crosses, Vec-send, Vec-sync}
 use Rattle.instance_records.proofs.short_list.ShortList.TheSendSync as lists
 use Rattle.instance_records.proofs.gift.Gift.TheSendSync as gifts
-use Rattle.instance_records.proofs.arguments.Arguments.TheSendSync as arguments
+use Rattle.instance_records.proofs.called.Called.TheSendSync as called
 use Rattle.instance_records.proofs.entries.Entries.TheSendSync as entries
 use Rattle.evaluation.proofs.reading.Reading.TheSendSync as reading
 use Rattle.instance_records.proofs.spans.Span.TheSendSync as spans
@@ -43,10 +43,10 @@ pub readings_sync : IsSync (Readings.the_field).row
 readings_sync = let s = node_send in let y = node_sync in search (sendable, crosses) depth 20
 
 pub record_send : IsSend (Record.the_field).row
-record_send = let s = readings_send in search (sendable, crosses, lists.the_field_send, gifts.the_send, arguments.the_field_send, entries.the_field_send) depth 20
+record_send = let s = readings_send in search (sendable, crosses, lists.the_field_send, gifts.the_send, called.the_field_send, entries.the_field_send) depth 20
 
 pub record_sync : IsSync (Record.the_field).row
-record_sync = let y = readings_sync in search (sendable, crosses, lists.the_field_sync, gifts.the_sync, arguments.the_field_sync, entries.the_field_sync) depth 20
+record_sync = let y = readings_sync in search (sendable, crosses, lists.the_field_sync, gifts.the_sync, called.the_field_sync, entries.the_field_sync) depth 20
 
 pub hull_send : IsSend (Hull.the_field).row
 hull_send = search (sendable, crosses, spans.the_send) depth 20

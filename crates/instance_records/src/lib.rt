@@ -3,6 +3,7 @@
 
 pub mod arguments;
 mod below;
+mod called;
 pub mod entries;
 mod full;
 pub mod gift;

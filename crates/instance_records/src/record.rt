@@ -16,6 +16,7 @@ ghost use Rattle.record_theory.specs.Numbers.{is_counted, numbered_by};
 ghost use Rattle.record_theory.specs.Validity.{has_revision, record_holds, record_valid};
 
 use crate::arguments::Arguments;
+use crate::called::Called;
 use crate::entries::Entries;
 use crate::gift::Gift;
 use crate::readings::Readings;
@@ -32,31 +33,30 @@ use std::marker::Model;
 #[derive(Drop)]
 pub struct Record {
     procedure: usize,
-    arguments: Arguments,
+    called: Called,
     value: i64,
     contribution: ShortList<Gift>,
     reads: Readings,
     entered: Entries,
-    height: u32,
 }
 
 impl Model for Record {
     ghost use Rattle.std.specs.Prelude.{map};
     ghost use Rattle.record_theory.specs.Record.{PlainRecord, touched};
     ghost use Rattle.instance_records.specs.ShortLists.{items_in};
-    ghost use Rattle.instance_records.specs.Parts.{arguments_in, entries_in};
+    ghost use Rattle.instance_records.specs.Parts.{arguments_of, entries_in, height_of};
     ghost use Rattle.instance_records.specs.Gifts.{given_by};
 
     ghost Value = { PlainRecord };
 
     ghost view = { λ r. record {
       procedure = r.procedure;
-      arguments = arguments_in r.arguments;
+      arguments = arguments_of r.called;
       value = r.value;
       contribution = map touched (map given_by (items_in r.contribution));
       reads = r.reads;
       entered = entries_in r.entered;
-      height = r.height;
+      height = height_of r.called;
       stale = 0;
     } };
 }
@@ -106,12 +106,11 @@ impl Record {
     {
         Record {
             procedure,
-            arguments,
+            called: Called::new(arguments, height),
             value,
             contribution,
             reads,
             entered,
-            height,
         }
     }
 
@@ -133,7 +132,7 @@ impl Record {
     pub fn arguments(&self) -> &[i64]
         ensures arguments { result.now ≡ self.now.arguments }
     {
-        self.arguments.as_slice()
+        self.called.arguments()
     }
 
     /// The instance's value.
@@ -168,7 +167,7 @@ impl Record {
     pub fn height(&self) -> u32
         ensures height { result ≡ self.now.height }
     {
-        self.height
+        self.called.height()
     }
 
     /// Whether the tables hold what was read, and the procedures entered are as they were.
@@ -200,7 +199,7 @@ impl Record {
         is_valid(
             self.agrees(number, tables),
             self.entered(),
-            self.height,
+            self.height(),
             depth,
             program,
         )
@@ -212,7 +211,7 @@ impl Record {
         ensures allowed { result ≡ (every (has_revision program.now.revisions) self.now.entered
             && nat_le (depth + self.now.height) (suc depth_limit)) }
     {
-        is_allowed(self.entered(), self.height, depth, program)
+        is_allowed(self.entered(), self.height(), depth, program)
     }
 }
 

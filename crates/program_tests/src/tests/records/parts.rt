@@ -171,11 +171,11 @@ fn what_is_given_is_short(rt: HostRuntime) {
     assert!(&rt; size_of::<Gift>() == 16);
 }
 
-/// A record of one argument or two, two readings, two reducers and one procedure takes 152 bytes in the list and no memory of its own.
+/// A record of one argument or two, two readings, two reducers and one procedure takes 144 bytes in the list and no memory of its own.
 /// Readings that others share lie in a node of 64: a count, an instance's own readings, and where the parts lie, if there are any.
 #[test]
 fn a_record_is_small(rt: HostRuntime) {
     let shared = 8 + size_of::<ShortList<Reading>>() + size_of::<Option<Box<u64>>>();
     assert!(&rt; size_of::<Reading>() == 16 && size_of::<Note>() > 24);
-    assert!(&rt; size_of::<Record>() == 152 && shared == 64);
+    assert!(&rt; size_of::<Record>() == 144 && shared == 64);
 }

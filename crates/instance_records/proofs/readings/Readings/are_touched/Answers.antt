@@ -11,7 +11,7 @@ pub returns-in-Two : goal.returns-in-Two
 returns-in-Two c = record {
   apart = λ e.
       ap (every (is_apart c.args.changes.now)) (sym c.self.view_is ∙ ap notes_in c.in-Two.is)
-      ∙ own_apart c.args.changes.now (map note_of c.in-Two.pair) (sym c.are_own_touched.ensures.touched ∙ e);
+      ∙ own_apart c.args.changes.now (map note_of c.in-Two.pair) (sym c.are_own_touched-in-Two.ensures.touched ∙ e);
 }
 
 pub returns-in-One : goal.returns-in-One

@@ -9,7 +9,7 @@ use Rattle.instance_records.proofs.readings.Readings.may_have_sums.Goals as goal
 pub returns-in-Two : goal.returns-in-Two
 returns-in-Two c = record {
   none = λ e table column value.
-      ap (λ ns. is_read ns (Sum table column value)) (sym c.self.view_is ∙ ap notes_in c.in-Two.is) ∙ no_sums c.in-Two.pair table column value (sym c.are_sums.ensures.sums ∙ e);
+      ap (λ ns. is_read ns (Sum table column value)) (sym c.self.view_is ∙ ap notes_in c.in-Two.is) ∙ no_sums c.in-Two.pair table column value (sym c.are_sums-in-Two.ensures.sums ∙ e);
 }
 
 pub returns-in-One : goal.returns-in-One
