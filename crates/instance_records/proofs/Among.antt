@@ -11,7 +11,7 @@ use Rattle.instance_records.specs.declared.readings.Below.{Below, out-Below}
 use Rattle.instance_records.specs.ShortLists.{items_in}
 use Rattle.instance_records.specs.Readings.{node_notes, shared_notes, held_notes, is_covered}
 use Rattle.instance_records.specs.declared.spans.Span.{Span}
-use Rattle.instance_records.specs.Spans.{is_covered_by}
+use Rattle.instance_records.specs.Spans.{is_covered_by, spans_in}
 use Rattle.record_theory.specs.Record.{PlainRecord}
 use Rattle.record_theory.specs.Same.{same_note, is_read}
 use Rattle.record_theory.proofs.Members.{left_is, right_is, both, every_weaker}
@@ -58,10 +58,10 @@ module _ (n : Node) (note : Note) where
       ∙ either (is_read (map note_of (items_in (out-Node n).own)) note) (is_read (flat_map shared_notes (out-Below b.value).parts.items) note) e
 
   -- where its rows lie in no span, it isn't below
-  pub read_outside : (b : Box Below Global) → (out-Node n).below ≡ Some b → is_covered n ≡ true → is_covered_by (out-Below b.value).spans.items note ≡ false
+  pub read_outside : (b : Box Below Global) → (out-Node n).below ≡ Some b → is_covered n ≡ true → is_covered_by (spans_in (out-Below b.value).spans) note ≡ false
       → is_read (map note_of (items_in (out-Node n).own)) note ≡ false → is_read (node_notes n) note ≡ false
   read_outside b at covered outside e =
-      read_in_parts b at e ∙ read_elsewhere (out-Below b.value).spans.items (flat_map shared_notes (out-Below b.value).parts.items) note outside (spans_cover n b at covered)
+      read_in_parts b at e ∙ read_elsewhere (spans_in (out-Below b.value).spans) (flat_map shared_notes (out-Below b.value).parts.items) note outside (spans_cover n b at covered)
 
 -- ---- rows of one more record
 

@@ -16,7 +16,7 @@ use Rattle.evaluation.specs.declared.reading.Reading.{Reading}
 use Rattle.instance_records.specs.declared.short_list.ShortList.{ShortList}
 use Rattle.instance_records.specs.declared.spans.Span.{Span}
 use Rattle.instance_records.specs.ShortLists.{items_in}
-use Rattle.instance_records.specs.Spans.{is_covered_by, span_of, put_spans}
+use Rattle.instance_records.specs.Spans.{is_covered_by, span_of, put_spans, spans_in}
 use Rattle.record_theory.proofs.Members.{left_is, right_is, both, every_mapped, every_weaker, every_append}
 use Rattle.instance_records.proofs.Covered.{keeps_all, adds_all, adds_read}
 use Rattle.instance_records.specs.Readings.{all_of, Told, node_step, below_step, node_told, below_told, node_notes, is_covered, shared_notes, is_covered_share, held_notes, is_covered_below}
@@ -48,17 +48,17 @@ both_same p a b xs ys e f = ap (λ c. c && every p xs) e ∙ ap (λ zs. b && eve
 pub below_roll : (x : Below-F Below Node) → (below_told (roll-Below x)).0 ≡ flat_map shared_notes x.parts.items
 below_roll x = ap (λ t. t.0) (fold-roll-Below Told Told below_step node_step x) ∙ flat_map-map (λ (p : Arc Told Global). (arc_value p).0) _ x.parts.items
 
-pub below_covered_roll : (x : Below-F Below Node) → (below_told (roll-Below x)).1 ≡ (every is_covered_share x.parts.items && every (is_covered_by x.spans.items) (flat_map shared_notes x.parts.items))
+pub below_covered_roll : (x : Below-F Below Node) → (below_told (roll-Below x)).1 ≡ (every is_covered_share x.parts.items && every (is_covered_by (spans_in x.spans)) (flat_map shared_notes x.parts.items))
 below_covered_roll x =
     ap (λ t. t.1) (fold-roll-Below Told Told below_step node_step x)
-    ∙ both_same (is_covered_by x.spans.items) _ _ _ _
+    ∙ both_same (is_covered_by (spans_in x.spans)) _ _ _ _
     (sym (every_mapped (λ (p : Arc Told Global). (arc_value p).1) is_covered_share _ x.parts.items (λ p. refl)))
     (flat_map-map (λ (p : Arc Told Global). (arc_value p).0) _ x.parts.items)
 
 pub below_out : (b : Below) → (below_told b).0 ≡ flat_map shared_notes (out-Below b).parts.items
 below_out b = ap (λ x. (below_told x).0) (sym (roll-out-Below b)) ∙ below_roll (out-Below b)
 
-pub below_covered_out : (b : Below) → (below_told b).1 ≡ (every is_covered_share (out-Below b).parts.items && every (is_covered_by (out-Below b).spans.items) (flat_map shared_notes (out-Below b).parts.items))
+pub below_covered_out : (b : Below) → (below_told b).1 ≡ (every is_covered_share (out-Below b).parts.items && every (is_covered_by (spans_in (out-Below b).spans)) (flat_map shared_notes (out-Below b).parts.items))
 below_covered_out b = ap (λ x. (below_told x).1) (sym (roll-out-Below b)) ∙ below_covered_roll (out-Below b)
 
 -- ---- its own readings and those below
@@ -78,13 +78,13 @@ module _ (n : Node) where
   pub alone : (out-Node n).below ≡ None → node_notes n ≡ map note_of (items_in (out-Node n).own) ++ []
   alone e = notes_out n ∙ ap (λ o. map note_of (items_in (out-Node n).own) ++ held_notes o) e
 
-  covered_there : (b : Box Below Global) → (out-Node n).below ≡ Some b → is_covered n ≡ true → (every is_covered_share (out-Below b.value).parts.items && every (is_covered_by (out-Below b.value).spans.items) (flat_map shared_notes (out-Below b.value).parts.items)) ≡ true
+  covered_there : (b : Box Below Global) → (out-Node n).below ≡ Some b → is_covered n ≡ true → (every is_covered_share (out-Below b.value).parts.items && every (is_covered_by (spans_in (out-Below b.value).spans)) (flat_map shared_notes (out-Below b.value).parts.items)) ≡ true
   covered_there b e h = sym (below_covered_out b.value) ∙ ap is_covered_below (sym e) ∙ sym (covered_out n) ∙ h
 
   pub parts_covered : (b : Box Below Global) → (out-Node n).below ≡ Some b → is_covered n ≡ true → every is_covered_share (out-Below b.value).parts.items ≡ true
   parts_covered b e h = left_is (every is_covered_share (out-Below b.value).parts.items) _ (covered_there b e h)
 
-  pub spans_cover : (b : Box Below Global) → (out-Node n).below ≡ Some b → is_covered n ≡ true → every (is_covered_by (out-Below b.value).spans.items) (flat_map shared_notes (out-Below b.value).parts.items) ≡ true
+  pub spans_cover : (b : Box Below Global) → (out-Node n).below ≡ Some b → is_covered n ≡ true → every (is_covered_by (spans_in (out-Below b.value).spans)) (flat_map shared_notes (out-Below b.value).parts.items) ≡ true
   spans_cover b e h = right_is (every is_covered_share (out-Below b.value).parts.items) _ (covered_there b e h)
 
   -- ---- tests of all notes
@@ -125,9 +125,9 @@ module _ (n : Node) where
   alone_covered old new e h = every_alone (is_covered_by new) h ∙ own_covered old new e
 
   pub all_covered : (old mid new : List Span) (b : Box Below Global) → (out-Node n).below ≡ Some b → is_covered n ≡ true
-      → mid ≡ put_spans old (map span_of (items_in (out-Node n).own)) → new ≡ put_spans mid (out-Below b.value).spans.items → every (is_covered_by new) (node_notes n) ≡ true
+      → mid ≡ put_spans old (map span_of (items_in (out-Node n).own)) → new ≡ put_spans mid (spans_in (out-Below b.value).spans) → every (is_covered_by new) (node_notes n) ≡ true
   all_covered old mid new b e h f g =
-      let spans = (out-Below b.value).spans.items in
+      let spans = (spans_in (out-Below b.value).spans) in
       let more : (note : Note) → is_covered_by mid note ≡ true → is_covered_by new note ≡ true = λ note k. subst (λ ss. is_covered_by ss note ≡ true) (sym g) (keeps_all spans mid note k) in
       let put : (note : Note) → is_covered_by spans note ≡ true → is_covered_by new note ≡ true = λ note k. subst (λ ss. is_covered_by ss note ≡ true) (sym g) (adds_all spans mid note k) in
       every_with_parts (is_covered_by new) b e (every_weaker (is_covered_by mid) (is_covered_by new) (map note_of (items_in (out-Node n).own)) more (own_covered old mid f))

@@ -1,12 +1,12 @@
 -- A record and what it has read may go from thread to thread, and be shared by threads.
 use denote.Param.Send.{IsSend, IsSync, sendable}
-use Rattle.std.proofs.Crossing.{crosses, Vec-send, Vec-sync}
+use Rattle.std.proofs.Crossing.{crosses}
 use Rattle.instance_records.proofs.short_list.ShortList.TheSendSync as lists
 use Rattle.instance_records.proofs.gift.Gift.TheSendSync as gifts
 use Rattle.instance_records.proofs.called.Called.TheSendSync as called
 use Rattle.instance_records.proofs.entries.Entries.TheSendSync as entries
 use Rattle.evaluation.proofs.reading.Reading.TheSendSync as reading
-use Rattle.instance_records.proofs.spans.Span.TheSendSync as spans
+use Rattle.instance_records.proofs.few_spans.FewSpans.TheSendSync as few
 use Rattle.instance_records.proofs.full.Full.TheSendSync as fulls
 use Rattle.instance_records.specs.contracts.readings.Node as Node
 use Rattle.instance_records.specs.contracts.readings.Readings as Readings
@@ -19,7 +19,7 @@ node_send =
     both_send-Node
     (λ h s y. search (sendable, crosses) depth 20)
     (λ h s y. search (sendable, crosses) depth 20)
-    (Vec-send _ spans.the_send) (Vec-sync _ spans.the_sync)
+    few.the_field_send few.the_field_sync
     fulls.the_field_send fulls.the_field_sync
     (search (sendable, crosses, reading.the_send) depth 20) (search (sendable, crosses, reading.the_sync) depth 20)
     (λ h s y. search (sendable, crosses) depth 20)
@@ -30,7 +30,7 @@ node_sync =
     both_sync-Node
     (λ h s y. search (sendable, crosses) depth 20)
     (λ h s y. search (sendable, crosses) depth 20)
-    (Vec-send _ spans.the_send) (Vec-sync _ spans.the_sync)
+    few.the_field_send few.the_field_sync
     fulls.the_field_send fulls.the_field_sync
     (search (sendable, crosses, reading.the_send) depth 20) (search (sendable, crosses, reading.the_sync) depth 20)
     (λ h s y. search (sendable, crosses) depth 20)
@@ -49,7 +49,7 @@ pub record_sync : IsSync (Record.the_field).row
 record_sync = let y = readings_sync in search (sendable, crosses, lists.the_field_sync, gifts.the_sync, called.the_field_sync, entries.the_field_sync) depth 20
 
 pub hull_send : IsSend (Hull.the_field).row
-hull_send = search (sendable, crosses, spans.the_send) depth 20
+hull_send = search (sendable, crosses, few.the_field_send) depth 20
 
 pub hull_sync : IsSync (Hull.the_field).row
-hull_sync = search (sendable, crosses, spans.the_sync) depth 20
+hull_sync = search (sendable, crosses, few.the_field_sync) depth 20

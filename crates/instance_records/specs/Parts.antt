@@ -32,4 +32,5 @@ height_of (c.Several height items) = height
 abbrev pub entries_in : Entries → List (ℕ × ℕ)
 entries_in e.Nothing = []
 entries_in (e.One entry) = entry ∷ []
+entries_in (e.Two pair) = pair.value
 entries_in (e.Several entries) = entries.value.items

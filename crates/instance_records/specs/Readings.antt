@@ -14,7 +14,7 @@ use Rattle.instance_records.specs.declared.readings.Held.{Held}
 use Rattle.instance_records.specs.declared.readings.Held.TheVariants.{Nothing, One, Two, Shared}
 use Rattle.evaluation.specs.Short.{note_of}
 use Rattle.instance_records.specs.ShortLists.{items_in}
-use Rattle.instance_records.specs.Spans.{is_covered_by}
+use Rattle.instance_records.specs.Spans.{is_covered_by, spans_in}
 
 -- it is of a sum
 abbrev pub is_a_sum : Reading → Bool
@@ -44,7 +44,7 @@ node_step n = (map note_of (items_in n.own) ++ (held_told n.below).0, (held_told
 abbrev pub below_step : Below-F Told Told → Told
 below_step b =
     let notes = flat_map (λ (p : Arc Told Global). (arc_value p).0) b.parts.items in
-    (notes, every (λ (p : Arc Told Global). (arc_value p).1) b.parts.items && every (is_covered_by b.spans.items) notes)
+    (notes, every (λ (p : Arc Told Global). (arc_value p).1) b.parts.items && every (is_covered_by (spans_in b.spans)) notes)
 
 abbrev pub node_told : Node → Told
 node_told = fold-Node Told Told below_step node_step

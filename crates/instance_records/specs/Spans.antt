@@ -7,7 +7,14 @@ use Rattle.evaluation.specs.declared.note.Note.{Note}
 use Rattle.evaluation.specs.declared.note.Note.TheVariants as n
 use Rattle.evaluation.specs.declared.reading.Reading.{Reading}
 use Rattle.evaluation.specs.declared.reading.Reading.TheVariants as r
+use Rattle.instance_records.specs.declared.few_spans.FewSpans.{FewSpans}
+use Rattle.instance_records.specs.declared.few_spans.FewSpans.TheVariants as few
 use Rattle.instance_records.specs.declared.spans.Span.{Span}
+
+-- spans of which one lies by itself
+abbrev pub spans_in : FewSpans → List Span
+spans_in (few.One span) = span ∷ []
+spans_in (few.Several spans) = spans.items
 
 -- the rows that a reading rests on
 abbrev pub span_of : Reading → Span

@@ -7,6 +7,7 @@ ghost use Rattle.instance_records.specs.Full.{IsFull, IsFullNode, IsFullBelow};
 ghost use Rattle.instance_records.specs.Readings.{all_of, node_notes, shared_notes, held_notes, is_covered, is_covered_share, is_covered_below};
 ghost use Rattle.instance_records.specs.Spans.{is_covered_by};
 
+use crate::few_spans::FewSpans;
 use crate::full::Full;
 use crate::lines::put_lines;
 use crate::readings::{Below, Node, Readings};
@@ -32,7 +33,7 @@ pub(crate) fn make_below(
     let mut spans = Vec::with_capacity(alloc, TABLES)?;
     let mut full = Full::none();
     let parts = nodes(alloc, parts, &mut spans, &mut full)?;
-    spans.shrink_to_fit();
+    let spans = FewSpans::packed(spans);
     let below = Below { parts, spans, full };
     Ok(Some(Box::new(alloc, below)?))
 }
@@ -92,7 +93,7 @@ pub(crate) fn put_node(node: &Node, spans: &mut Vec<Span>) -> Result<(), AllocEr
 {
     put_read(node.own.as_slice(), spans)?;
     match &node.below {
-        Some(below) => put_spans(&below.spans, spans),
+        Some(below) => put_spans(below.spans.as_slice(), spans),
         None => Ok(()),
     }
 }

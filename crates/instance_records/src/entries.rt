@@ -5,11 +5,12 @@ ghost use Rattle.instance_records.specs.Parts.{entries_in};
 use std::alloc::{AllocError, Global};
 use std::slice;
 
-/// Numbers of procedures in order, each with its revision number. One of them lies by itself, more in memory of their own.
+/// Numbers of procedures in order, each with its revision number. One of them lies by itself, two in a box, more in memory of their own.
 #[derive(Drop)]
 pub enum Entries {
     Nothing,
     One((usize, u64)),
+    Two(Box<[(usize, u64); 2]>),
     Several(Box<Vec<(usize, u64)>>),
 }
 
@@ -21,6 +22,7 @@ impl Entries {
         match entries.len() {
             0 => Ok(Entries::Nothing),
             1 => Ok(Entries::One(entries[0])),
+            2 => Ok(Entries::Two(Box::new(alloc, [entries[0], entries[1]])?)),
             _ => {
                 let copies = Vec::from_slice(alloc, entries)?;
                 Ok(Entries::Several(Box::new(alloc, copies)?))
@@ -36,6 +38,7 @@ impl Entries {
         match self {
             Entries::Nothing => &[],
             Entries::One(entry) => slice::from_ref(entry),
+            Entries::Two(pair) => &**pair,
             Entries::Several(entries) => entries.as_slice(),
         }
     }
@@ -50,8 +53,13 @@ impl Entries {
                 Ok(())
             }
             Entries::One(first) => {
-                let both = Vec::from_slice(alloc, &[*first, entry])?;
-                *self = Entries::Several(Box::new(alloc, both)?);
+                *self = Entries::Two(Box::new(alloc, [*first, entry])?);
+                Ok(())
+            }
+            Entries::Two(pair) => {
+                let mut entries = Vec::from_slice(alloc, &**pair)?;
+                entries.push(entry)?;
+                *self = Entries::Several(Box::new(alloc, entries)?);
                 Ok(())
             }
             Entries::Several(entries) => {

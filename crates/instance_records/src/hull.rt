@@ -5,25 +5,28 @@ ghost use Rattle.meaning.specs.Every.{every};
 ghost use Rattle.instance_records.specs.declared.spans.Span.{Span as PlainSpan};
 ghost use Rattle.instance_records.specs.Spans.{is_covered_by, is_touched};
 
+use crate::few_spans::FewSpans;
 use crate::readings::Readings;
 use crate::record::Record;
-use crate::spans::{Span, are_touched, hold_rows, put_spans};
+use crate::spans::{are_touched, hold_rows, put_spans};
 use std::alloc::{AllocError, Global};
 use std::marker::Model;
 
 /// Stretches of rows, one for each table.
 #[derive(Drop)]
 pub struct Hull {
-    spans: Vec<Span>,
+    alloc: Global,
+    spans: FewSpans,
 }
 
 impl Model for Hull {
     ghost use Rattle.std.specs.Prelude.{List};
     ghost use Rattle.instance_records.specs.declared.spans.Span.{Span};
+    ghost use Rattle.instance_records.specs.Spans.{spans_in};
 
     ghost Value = { List Span };
 
-    ghost view = { λ h. h.spans.items };
+    ghost view = { λ h. spans_in h.spans };
 }
 
 impl Hull {
@@ -36,8 +39,8 @@ impl Hull {
         for record in records {
             record.reads().put_rows(&mut spans)?;
         }
-        spans.shrink_to_fit();
-        Ok(Hull { spans })
+        let spans = FewSpans::packed(spans);
+        Ok(Hull { alloc, spans })
     }
 
     /// The rows of these hulls together, without spare room.
@@ -48,19 +51,25 @@ impl Hull {
     {
         let mut spans = Vec::new(alloc);
         for hull in hulls {
-            put_spans(&hull.spans, &mut spans)?;
+            put_spans(hull.spans.as_slice(), &mut spans)?;
         }
-        spans.shrink_to_fit();
-        Ok(Hull { spans })
+        let spans = FewSpans::packed(spans);
+        Ok(Hull { alloc, spans })
     }
 
-    /// Puts in the rows of what was read; where memory is refused some of them are in and others aren't.
+    /// Puts in the rows of what was read. Want of memory is the only error.
     pub fn widen(&mut self, reads: &Readings) -> Result<(), AllocError>
         ensures kept { OnOk result ((note : PlainNote) → is_covered_by self.old note ≡ true
             → is_covered_by self.new note ≡ true) }
         ensures put { OnOk result (every (is_covered_by self.new) reads.now ≡ true) }
     {
-        reads.put_rows(&mut self.spans)
+        if self.has(reads) {
+            return Ok(());
+        }
+        let mut spans = Vec::from_slice(self.alloc, self.spans.as_slice())?;
+        reads.put_rows(&mut spans)?;
+        self.spans = FewSpans::packed(spans);
+        Ok(())
     }
 
     /// Whether all that lies in the other lies in it.
@@ -68,14 +77,14 @@ impl Hull {
         ensures held { result ≡ true → (note : PlainNote) → is_covered_by other.now note ≡ true
             → is_covered_by self.now note ≡ true }
     {
-        hold_rows(&self.spans, &other.spans)
+        hold_rows(self.spans.as_slice(), other.spans.as_slice())
     }
 
     /// Whether all that was read lies in it.
     pub fn has(&self, reads: &Readings) -> bool
         ensures has { result ≡ true → every (is_covered_by self.now) reads.now ≡ true }
     {
-        reads.lie_in(&self.spans)
+        reads.lie_in(self.spans.as_slice())
     }
 
     /// Whether one of these changes, each given by its table's number and the row, lies in it.
@@ -83,6 +92,6 @@ impl Hull {
     pub fn is_touched(&self, changes: &[(usize, i64)]) -> bool
         ensures touched { result ≡ is_touched self.now changes.now }
     {
-        are_touched(&self.spans, changes)
+        are_touched(self.spans.as_slice(), changes)
     }
 }

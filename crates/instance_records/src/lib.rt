@@ -5,6 +5,7 @@ pub mod arguments;
 mod below;
 mod called;
 pub mod entries;
+mod few_spans;
 mod full;
 pub mod gift;
 pub mod hull;

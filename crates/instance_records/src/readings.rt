@@ -16,6 +16,7 @@ ghost use Rattle.record_theory.specs.Counts.{how_many};
 ghost use Rattle.record_theory.specs.Same.{is_read, same_note};
 
 use crate::below::{make_below, put_node};
+use crate::few_spans::FewSpans;
 use crate::full::Full;
 use crate::narrowing::{how_many, how_many_own, lowest, touched_own};
 use crate::own::{has_own, is_cell};
@@ -54,7 +55,7 @@ pub(crate) struct Node {
 #[derive(Drop)]
 pub(crate) struct Below {
     pub(crate) parts: Vec<Arc<Node>>,
-    pub(crate) spans: Vec<Span>,
+    pub(crate) spans: FewSpans,
     pub(crate) full: Full,
 }
 
@@ -477,7 +478,7 @@ pub(crate) fn node_has(node: &Node, note: &Note) -> bool
     }
     match &node.below {
         Some(below) => {
-            if may_have(&below.spans, note) {
+            if may_have(below.spans.as_slice(), note) {
                 parts_have(&below.parts, note)
             } else {
                 false

@@ -26,7 +26,7 @@ pub(crate) fn node_is_touched(node: &Node, changes: &[(usize, i64)]) -> bool
         return true;
     }
     match &node.below {
-        Some(below) => are_touched(&below.spans, changes),
+        Some(below) => are_touched(below.spans.as_slice(), changes),
         None => false,
     }
 }
@@ -35,7 +35,7 @@ pub(crate) fn node_is_touched(node: &Node, changes: &[(usize, i64)]) -> bool
 pub(crate) fn node_has_row(node: &Node, row: Option<(usize, i64)>) -> bool {
     match &node.below {
         Some(below) => match row {
-            Some(row) => are_touched(&below.spans, slice::from_ref(&row)),
+            Some(row) => are_touched(below.spans.as_slice(), slice::from_ref(&row)),
             None => false,
         },
         None => false,
@@ -45,7 +45,7 @@ pub(crate) fn node_has_row(node: &Node, row: Option<(usize, i64)>) -> bool {
 /// A row that was read there or below, by the number of its table and its own; none where all of a table's were.
 pub(crate) fn node_first_row(node: &Node) -> Option<(usize, i64)> {
     match &node.below {
-        Some(below) => first_row(node.own.as_slice(), &below.spans),
+        Some(below) => first_row(node.own.as_slice(), below.spans.as_slice()),
         None => first_row(node.own.as_slice(), &[]),
     }
 }
@@ -71,7 +71,7 @@ pub(crate) fn node_lies_in(node: &Node, spans: &[Span]) -> bool
         return false;
     }
     match &node.below {
-        Some(below) => hold_rows(spans, &below.spans),
+        Some(below) => hold_rows(spans, below.spans.as_slice()),
         None => true,
     }
 }
@@ -136,7 +136,7 @@ pub(crate) fn may_have_sums(node: &Node) -> bool
         return true;
     }
     match &node.below {
-        Some(below) => is_one_whole(&below.spans),
+        Some(below) => is_one_whole(below.spans.as_slice()),
         None => false,
     }
 }

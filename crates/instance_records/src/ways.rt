@@ -89,7 +89,7 @@ fn is_near(node: &Node, change: &(usize, i64)) -> bool {
 #[inline(always)]
 fn is_below(node: &Node, change: &(usize, i64)) -> bool {
     match &node.below {
-        Some(below) => are_touched(&below.spans, slice::from_ref(change)),
+        Some(below) => are_touched(below.spans.as_slice(), slice::from_ref(change)),
         None => false,
     }
 }

@@ -1,7 +1,7 @@
 use Rattle.std.proofs.Common.{◌≡◌, true, ap, sym, subst, ◌∙◌}
 use Rattle.std.specs.List.{flat_map}
 use Rattle.meaning.specs.Every.{every}
-use Rattle.instance_records.specs.Spans.{is_covered_by}
+use Rattle.instance_records.specs.Spans.{is_covered_by, spans_in}
 use Rattle.instance_records.specs.Readings.{all_of, below_told, is_covered_share, shared_notes}
 use Rattle.record_theory.proofs.Members.{both}
 use Rattle.instance_records.proofs.MoreRows.{below_is_full}
@@ -11,18 +11,18 @@ use Rattle.instance_records.proofs.below.make_below.Goals as goal
 pub returns-clause-below : goal.returns-clause-below
 returns-clause-below c =
     ap (λ b. (below_told b).0) c.in_ok-new.ensures.ok
-    ∙ below_roll (record { parts = c.in_ok-parts.parts; spans = c.shrink_to_fit.new.self; full = c.nodes.new.full })
+    ∙ below_roll (record { parts = c.in_ok-parts.parts; spans = c.packed-spans.result; full = c.nodes.new.full })
     ∙ c.in_ok-parts.ensures.nodes
 
 pub returns-clause-covered : goal.returns-clause-covered
 returns-clause-covered c =
     let parts = c.in_ok-parts.parts.items in
     ap (λ b. (below_told b).1) c.in_ok-new.ensures.ok
-    ∙ below_covered_roll (record { parts = c.in_ok-parts.parts; spans = c.shrink_to_fit.new.self; full = c.nodes.new.full })
-    ∙ both (every is_covered_share parts) (every (is_covered_by c.shrink_to_fit.new.self.items) (flat_map shared_notes parts)) c.in_ok-parts.ensures.each
-    (subst (λ ss. every (is_covered_by ss) (flat_map shared_notes parts) ≡ true) (sym c.shrink_to_fit.ensures.items) c.in_ok-parts.ensures.spans)
+    ∙ below_covered_roll (record { parts = c.in_ok-parts.parts; spans = c.packed-spans.result; full = c.nodes.new.full })
+    ∙ both (every is_covered_share parts) (every (is_covered_by (spans_in c.packed-spans.result)) (flat_map shared_notes parts)) c.in_ok-parts.ensures.each
+    (subst (λ ss. every (is_covered_by ss) (flat_map shared_notes parts) ≡ true) (sym c.packed-spans.ensures.same) c.in_ok-parts.ensures.spans)
 
 pub returns-clause-full : goal.returns-clause-full
 returns-clause-full c =
-    below_is_full c.in_ok-new.field-0.value (record { parts = c.in_ok-parts.parts; spans = c.shrink_to_fit.new.self; full = c.nodes.new.full }) (all_of c.args.parts.items) c.in_ok-new.ensures.ok
+    below_is_full c.in_ok-new.field-0.value (record { parts = c.in_ok-parts.parts; spans = c.packed-spans.result; full = c.nodes.new.full }) (all_of c.args.parts.items) c.in_ok-new.ensures.ok
     c.in_ok-parts.ensures.nodes c.in_ok-parts.ensures.full

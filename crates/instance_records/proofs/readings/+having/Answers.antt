@@ -4,7 +4,7 @@ use Rattle.meaning.specs.Every.{every}
 use Rattle.instance_records.specs.declared.readings.Below.{out-Below}
 use Rattle.instance_records.specs.declared.readings.Below.TheViews.{the_lemmas}
 use Rattle.evaluation.specs.Short.{note_of}
-use Rattle.instance_records.specs.Spans.{is_covered_by}
+use Rattle.instance_records.specs.Spans.{is_covered_by, spans_in}
 use Rattle.instance_records.specs.Readings.{shared_notes, is_covered_share}
 use Rattle.record_theory.specs.Same.{is_read}
 use Rattle.instance_records.proofs.NodeNotes.{parts_covered}
@@ -35,7 +35,7 @@ node_has-returns-then-may_have t c =
 pub node_has-returns-else-may_have : goal.node_has-returns-else-may_have
 node_has-returns-else-may_have t c =
     let own = ap (λ rs. is_read (map note_of rs) c.args.note.now) (sym c.as_slice.ensures.items) ∙ sym c.has_own.ensures.has ∙ c.if-has_own.false in
-    let spans_are = c.deref-in-Some.ensures.value ∙ ap (λ b. (out-Below b).spans.items) c.deref.ensures in
+    let spans_are = c.as_slice-in-Some.ensures.spans ∙ ap (λ b. spans_in (out-Below b).spans) c.deref.ensures in
     let outside = ap (λ ss. is_covered_by ss c.args.note.now) (sym spans_are) ∙ sym c.may_have.ensures.has ∙ c.if-may_have.false in
     record { has = sym (read_outside c.args.node.now c.args.note.now c.in-Some.below c.in-Some.is c.requires.covered outside own) }
 

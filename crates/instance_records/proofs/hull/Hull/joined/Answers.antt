@@ -11,7 +11,7 @@ loop-hull-preserved c =
     let old = c.loop-hull.spans.items in
     let new = c.put_spans.new.spans.items in
     let hull = c.hull-item.result in
-    let put : new ≡ put_spans old hull = c.in_ok-put_spans.ensures.put ∙ ap (put_spans old) (c.deref.ensures.value ∙ c.hull.view_is) in
+    let put : new ≡ put_spans old hull = c.in_ok-put_spans.ensures.put ∙ ap (put_spans old) (c.as_slice.ensures.spans ∙ c.hull.view_is) in
     one_more_joined c.args.hulls.now c.loop-hull.hull-index hull old new c.hull-item.is
     (λ note e. subst (λ (ss : List Span). is_covered_by ss note ≡ true) (sym put) (keeps_all hull old note e))
     (λ note e. subst (λ (ss : List Span). is_covered_by ss note ≡ true) (sym put) (adds_all hull old note e))
@@ -22,5 +22,5 @@ returns c = record {
   held = λ i g note at e.
       let within : i < length c.args.hulls.now = slice_get_within c.args.hulls.now i g at in
       let past = c.loop-hull-test.false in
-      subst (λ (ss : List Span). is_covered_by ss note ≡ true) (sym c.shrink_to_fit.ensures.items) (c.loop-hull.invariant i g note (omega (arith, within, past)) at e);
+      subst (λ (ss : List Span). is_covered_by ss note ≡ true) (sym c.packed-spans.ensures.same) (c.loop-hull.invariant i g note (omega (arith, within, past)) at e);
 }
