@@ -29,15 +29,15 @@ use std::hash::{Hash, Hasher};
 use std::marker::Model;
 
 /// What a memo instance came to, and what that rests on. Records are equal where they are of one procedure with the same
-/// arguments, whatever else they hold.
+/// arguments, whatever else they hold. What a look-up asks for stands together, since it lies in memory so.
 #[derive(Drop)]
 pub struct Record {
     procedure: usize,
     called: Called,
+    entered: Entries,
+    reads: Readings,
     value: i64,
     contribution: ShortList<Gift>,
-    reads: Readings,
-    entered: Entries,
 }
 
 impl Model for Record {
