@@ -53,6 +53,22 @@ IsLayer-emptied cs ws (u ∷ us) r c l e f =
       below = All-tail (λ n. n < length cs) u us l.below;
     }
 
+-- one reducer is at its identity again
+pub IsLayer-back : (cs : List Kind) (ws : List Worth) (used : List ℕ) (r : ℕ) (c : Kind) → IsLayer cs ws used → r < length cs
+    → c ≡ get_or cs r c → IsLayer cs (set ws r (identity_of c)) used
+IsLayer-back cs ws used r c l below f =
+    let size : length ws ≡ length cs = length-AreWorths cs ws l.right in
+    let size' : r < length ws = omega arith in
+    record {
+      right = AreWorths-set cs ws r c (identity_of c) l.right f (identity_right c);
+      shut = λ j d x g p q n. either_way j r
+          (λ s. (let p' : d ≡ get_or cs r d = subst (λ m. d ≡ get_or cs m d) s p in
+          let q' : x ≡ get_or (set ws r (identity_of c)) r x = subst (λ m. x ≡ get_or (set ws r (identity_of c)) m x) s q in
+          q' ∙ get_or-set_same ws r (identity_of c) x size' ∙ ap identity_of (same_kind_at cs r c d below f p')))
+          (λ s. l.shut j d x g p (q ∙ get_or-set_other ws r j (identity_of c) x s) n);
+      below = l.below;
+    }
+
 pub IsLayer-none : (cs : List Kind) (ws : List Worth) → IsLayer cs ws [] → ws ≡ identities cs
 IsLayer-none [] [] l = refl
 IsLayer-none [] (w ∷ ws) l = absurd l.right

@@ -1,3 +1,4 @@
 pub mod Layers
 pub mod Folds
 pub mod Records
+pub mod Knowing

@@ -11,6 +11,8 @@ ghost use Rattle.monoid_laws.specs.Kinds.{refusal, operate_all, IsMonoid};
 ghost use Rattle.monoid_laws.specs.declared.InjectError.TheVariants.{NoMemory};
 ghost use Rattle.hypermaps.specs.Layer.{Layer, IsLayer, IsAt, operate_first, used_also};
 
+mod known;
+
 use monoid_laws::{InjectError, Val};
 use reducer_values::copy_of;
 use std::alloc::{AllocError, Global};

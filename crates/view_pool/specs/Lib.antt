@@ -1,3 +1,4 @@
 pub mod Stock
 pub mod Seen
+pub mod Short
 pub mod Either

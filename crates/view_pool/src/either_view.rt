@@ -1,7 +1,7 @@
 //! The view that is one of two.
 ghost use Rattle.view_pool.specs.Either.{kind_in, worth_in};
 
-use crate::{FlatView, PlainView, View};
+use crate::{FlatView, PlainView, ShortValue, View};
 use monoid_laws::{InjectError, Kind, Val};
 use std::alloc::AllocError;
 
@@ -56,6 +56,7 @@ impl View for EitherView {
         }
     }
 
+    #[inline(always)]
     fn reset(&mut self) {
         match self {
             EitherView::Plain(view) => (**view).reset(),
@@ -68,6 +69,14 @@ impl View for EitherView {
         match self {
             EitherView::Plain(view) => (**view).export(),
             EitherView::Flat(view) => (**view).export(),
+        }
+    }
+
+    #[inline(always)]
+    fn short(&self) -> Option<ShortValue> {
+        match self {
+            EitherView::Plain(view) => (**view).short(),
+            EitherView::Flat(view) => (**view).short(),
         }
     }
 }

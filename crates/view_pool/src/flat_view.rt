@@ -2,7 +2,7 @@
 ghost use Rattle.std.specs.Prelude.{◌≡◌};
 ghost use Rattle.monoid_laws.specs.Kinds.{identity_of};
 
-use crate::View;
+use crate::{ShortValue, View};
 use monoid_laws::{InjectError, Kind, Val};
 use reducer_values::{add_element, combine, combine_at_once, copy_of, identity};
 use std::alloc::{AllocError, Global};
@@ -73,5 +73,9 @@ impl View for FlatView {
 
     fn export(&self) -> Result<Val, AllocError> {
         copy_of(self.alloc, &self.value)
+    }
+
+    fn short(&self) -> Option<ShortValue> {
+        ShortValue::of(&self.value)
     }
 }

@@ -1,8 +1,8 @@
 //! The product's own view: it keeps a list, and amounts by key, in pieces.
-ghost use Rattle.std.specs.Prelude.{◌≡◌};
-ghost use Rattle.monoid_laws.specs.Kinds.{identity_of};
+ghost use Rattle.std.specs.Prelude.{◌≡◌, true, false};
+ghost use Rattle.monoid_laws.specs.Kinds.{identity_of, meaning};
 
-use crate::View;
+use crate::{ShortValue, View};
 use monoid_laws::{InjectError, Kind, Val};
 use reducer_values::{
     add_in_pieces, combine_at_once, combine_in_pieces, copied_in_pieces, identity,
@@ -73,7 +73,11 @@ impl View for PlainView {
         mem::replace(&mut self.value, identity(self.alloc, self.kind))
     }
 
+    #[inline(always)]
     fn reset(&mut self) {
+        if reset_at_once(&self.kind, &mut self.value) {
+            return;
+        }
         self.value = identity(self.alloc, self.kind);
     }
 
@@ -84,5 +88,35 @@ impl View for PlainView {
             Val::Arg(best) => Ok(Val::Arg(*best)),
             other => copied_in_pieces(self.alloc, other),
         }
+    }
+
+    #[inline(always)]
+    fn short(&self) -> Option<ShortValue> {
+        ShortValue::of(&self.value)
+    }
+}
+
+// Puts a sum or a best pair back to its identity; whether that was done.
+#[inline(always)]
+fn reset_at_once(kind: &Kind, value: &mut Val) -> bool
+    ensures left { result ≡ true → meaning value.new ≡ identity_of kind.now }
+    ensures same { result ≡ false → meaning value.new ≡ meaning value.old }
+{
+    match kind {
+        Kind::Add => match value {
+            Val::Int(number) => {
+                *number = 0;
+                true
+            }
+            _ => false,
+        },
+        Kind::Argmax => match value {
+            Val::Arg(best) => {
+                *best = None;
+                true
+            }
+            _ => false,
+        },
+        _ => false,
     }
 }

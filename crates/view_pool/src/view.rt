@@ -1,9 +1,11 @@
 //! The interface of a view, and the boxed view.
-ghost use Rattle.std.specs.Prelude.{◌≡◌, OnOk, OnErr, IfOk, IfErr, IsOk, length, true, false};
+ghost use Rattle.std.specs.Prelude.{◌≡◌, OnOk, OnErr, IfOk, IfErr, IfSome, IsOk, length, true, false};
 ghost use Rattle.monoid_laws.specs.Worth.{Worth};
 ghost use Rattle.monoid_laws.specs.declared.Kind.{Kind};
 ghost use Rattle.monoid_laws.specs.Kinds.{operate, identity_of, meaning, element_of, IsWorth, names_element, refusal, arity};
+ghost use Rattle.view_pool.specs.Short.{value_in};
 
+use crate::ShortValue;
 use monoid_laws::{InjectError, Kind, Val};
 use std::alloc::AllocError;
 
@@ -64,6 +66,13 @@ pub trait View: Send + Drop {
     /// A copy of the value. Want of memory is the only error.
     fn export(&self) -> Result<Val, AllocError>
         ensures { IfOk result (λ v. meaning v ≡ worth_of self.now) };
+
+    /// The value, where it is short. A view may leave it to `export`.
+    fn short(&self) -> Option<ShortValue>
+        ensures short { IfSome result (λ v. meaning (value_in v) ≡ worth_of self.now) }
+    {
+        None
+    }
 }
 
 impl View for Box<dyn View> {
@@ -97,5 +106,9 @@ impl View for Box<dyn View> {
 
     fn export(&self) -> Result<Val, AllocError> {
         (**self).export()
+    }
+
+    fn short(&self) -> Option<ShortValue> {
+        (**self).short()
     }
 }
