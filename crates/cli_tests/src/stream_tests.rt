@@ -221,13 +221,9 @@ fn ends_so(rt: &(impl Abort + Threads + Wait + Sync), alloc: Global, row: Ending
     let mut reader = halting_reader(RUN, ErrorKind::Interrupted, 0, 0);
     let mut failures = Failures::none();
     let ended = ending(rt, alloc, &mut reader, &mut writer, &mut failures);
-    assert_eq!(rt; ended, wanted, "{error:?} {flush_error:?}");
-    assert_eq!(rt;
-        writer.taken.as_slice(),
-        taken.as_bytes(),
-        "{error:?} {flush_error:?}"
-    );
-    assert_eq!(rt; failures.noted(), marks, "{error:?} {flush_error:?}");
+    let is_written = writer.taken.as_slice() == taken.as_bytes();
+    let as_said = ended == wanted && is_written && failures.noted() == marks;
+    assert!(rt; as_said, "{error:?} {flush_error:?}: {ended} {is_written}");
 }
 
 #[test]
