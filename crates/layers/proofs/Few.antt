@@ -2,7 +2,9 @@
 use Rattle.std.proofs.Common.{◌≡◌, ℕ, List, [], ◌∷◌, ◌++◌, length, map, ap, ◌∙◌, sym, arith, get_or}
 use Rattle.std.proofs.lemmas.List.{map-append}
 use Rattle.monoid_laws.specs.Worth.{Worth}
+use Rattle.monoid_laws.specs.Kinds.{AreWorths}
 use Rattle.monoid_laws.specs.declared.Kind.{Kind}
+use Rattle.record_theory.proofs.Absorbed.{each}
 use Rattle.record_theory.specs.Record.{touched}
 use Rattle.instance_records.specs.declared.gift.Gift.{Gift}
 use Rattle.instance_records.specs.Gifts.{given_by}
@@ -31,6 +33,16 @@ two_touched (x ∷ y ∷ []) (a ∷ b ∷ c ∷ ws) j k v w n l e f g h = absurd
 two_touched (x ∷ y ∷ []) (a ∷ b ∷ []) j k v w n l e f g h =
     ap (λ es. es ++ touched_at 1 k w) (same_touched 0 j x v a e g) ∙ ap (λ es. touched_at 0 x a ++ es) (same_touched 1 k y w b f h)
     ∙ sym (touched_step 0 x (y ∷ []) a (b ∷ []))
+
+-- the values of two reducers are these
+two_items : (ws : List Worth) (v w : Worth) → length ws ≡ 2 → v ≡ get_or ws 0 v → w ≡ get_or ws 1 w → ws ≡ v ∷ w ∷ []
+two_items [] v w n e f = absurd (omega (arith, n))
+two_items (x ∷ []) v w n e f = absurd (omega (arith, n))
+two_items (x ∷ y ∷ z ∷ ws) v w n e f = absurd (omega (arith, n))
+two_items (x ∷ y ∷ []) v w n e f = ap (λ a. a ∷ y ∷ []) (sym e) ∙ ap (λ b. v ∷ b ∷ []) (sym f)
+
+pub two_worths : (ks : List Kind) (ws : List Worth) (v w : Worth) → length ks ≡ 2 → AreWorths ks ws → v ≡ get_or ws 0 v → w ≡ get_or ws 1 w → ws ≡ v ∷ w ∷ []
+two_worths ks ws v w n a = two_items ws v w (sym (each ks ws a) ∙ n)
 
 -- what is kept of one reducer's value, then of the other's
 pub both_kept : (first second all : List Gift) {xs ys : List (ℕ × Worth)} → all ≡ first ++ second → map touched (map given_by first) ≡ xs → map touched (map given_by second) ≡ ys

@@ -1,7 +1,6 @@
 -- Flags that are put up one by one.
 use Rattle.std.proofs.Common.{◌≡◌, ℕ, zero, suc, ◌+◌, ◌<◌, Bool, true, false, ◌||◌, List, [], ◌∷◌, length, replicate, slice_set, refl, sym, ap, ◌∙◌, subst, arith, add-one, get_or}
 use Rattle.positions.specs.Layers.{either}
-use Rattle.layers.specs.Folds.{flag_at}
 
 -- the first i flags are up where they are up in one of the lists
 abbrev pub raised : ℕ → List Bool → List Bool → List Bool
@@ -10,31 +9,46 @@ raised (suc i) [] ys = []
 raised (suc i) (x ∷ xs) [] = x ∷ raised i xs []
 raised (suc i) (x ∷ xs) (y ∷ ys) = (x || y) ∷ raised i xs ys
 
+nothing_at : (i : ℕ) → get_or [] i false ≡ false
+nothing_at zero = refl
+nothing_at (suc i) = refl
+
+or_true : (x : Bool) → (x || true) ≡ true
+or_true true = refl
+or_true false = refl
+
 or_false : (x : Bool) → (x || false) ≡ x
 or_false true = refl
 or_false false = refl
 
-nothing_at : (i : ℕ) → flag_at [] i ≡ false
-nothing_at zero = refl
-nothing_at (suc i) = refl
+next_up : (i : ℕ) (xs ys : List Bool) → get_or ys i false ≡ true → slice_set (raised i xs ys) i true ≡ raised (suc i) xs ys
+next_up zero xs [] e = absurd cc
+next_up (suc i) xs [] e = absurd cc
+next_up zero [] (y ∷ ys) e = refl
+next_up (suc i) [] (y ∷ ys) e = refl
+next_up zero (x ∷ xs) (y ∷ ys) e = ap (λ b. b ∷ xs) (sym (ap (λ b. x || b) e ∙ or_true x))
+next_up (suc i) (x ∷ xs) (y ∷ ys) e = ap (λ zs. (x || y) ∷ zs) (next_up i xs ys e)
 
-next_raised : (i : ℕ) (xs ys : List Bool) (x : Bool) → i < length xs → x ≡ get_or (raised i xs ys) i x → slice_set (raised i xs ys) i (x || flag_at ys i) ≡ raised (suc i) xs ys
-next_raised i [] ys x l e = absurd (omega arith)
-next_raised zero (z ∷ xs) [] x l e = ap (λ b. b ∷ xs) (or_false x ∙ e)
-next_raised zero (z ∷ xs) (y ∷ ys) x l e = ap (λ b. (b || y) ∷ xs) e
-next_raised (suc i) (z ∷ xs) [] x l e = ap (λ zs. z ∷ zs) (subst (λ b. slice_set (raised i xs []) i (x || b) ≡ raised (suc i) xs []) (nothing_at i) (next_raised i xs [] x (omega arith) e))
-next_raised (suc i) (z ∷ xs) (y ∷ ys) x l e = ap (λ zs. (z || y) ∷ zs) (next_raised i xs ys x (omega arith) e)
+next_down : (i : ℕ) (xs ys : List Bool) → get_or ys i false ≡ false → raised i xs ys ≡ raised (suc i) xs ys
+next_down zero [] ys e = refl
+next_down (suc i) [] ys e = refl
+next_down zero (x ∷ xs) [] e = refl
+next_down (suc i) (x ∷ xs) [] e = ap (λ zs. x ∷ zs) (next_down i xs [] (nothing_at i))
+next_down zero (x ∷ xs) (y ∷ ys) e = ap (λ b. b ∷ xs) (sym (ap (λ b. x || b) e ∙ or_false x))
+next_down (suc i) (x ∷ xs) (y ∷ ys) e = ap (λ zs. (x || y) ∷ zs) (next_down i xs ys e)
 
-pub raise_next : (i : ℕ) (xs ys : List Bool) (x : Bool) → i < length xs → x ≡ get_or (raised i xs ys) i x → slice_set (raised i xs ys) i (x || flag_at ys i) ≡ raised (i + 1) xs ys
-raise_next i xs ys x l e = next_raised i xs ys x l e ∙ ap (λ k. raised k xs ys) (sym (add-one i))
+-- one flag more is up where it is up in the other list
+pub raise_next : (i : ℕ) (xs ys zs : List Bool) → zs ≡ raised i xs ys → get_or ys i false ≡ true → slice_set zs i true ≡ raised (i + 1) xs ys
+raise_next i xs ys zs e up = ap (λ fs. slice_set fs i true) e ∙ next_up i xs ys up ∙ ap (λ k. raised k xs ys) (sym (add-one i))
 
-kept : (xs : List Bool) → raised (length xs) xs [] ≡ xs
-kept [] = refl
-kept (x ∷ xs) = ap (λ zs. x ∷ zs) (kept xs)
+-- and none more where it isn't
+pub keep_next : (i : ℕ) (xs ys zs : List Bool) → zs ≡ raised i xs ys → get_or ys i false ≡ false → zs ≡ raised (i + 1) xs ys
+keep_next i xs ys zs e down = e ∙ next_down i xs ys down ∙ ap (λ k. raised k xs ys) (sym (add-one i))
 
-pub all_raised : (xs ys : List Bool) → raised (length xs) xs ys ≡ either xs ys
-all_raised [] ys = refl
-all_raised (x ∷ xs) [] = ap (λ zs. x ∷ zs) (kept xs)
+pub all_raised : (xs ys : List Bool) → raised (length ys) xs ys ≡ either xs ys
+all_raised [] [] = refl
+all_raised (x ∷ xs) [] = refl
+all_raised [] (y ∷ ys) = refl
 all_raised (x ∷ xs) (y ∷ ys) = ap (λ zs. (x || y) ∷ zs) (all_raised xs ys)
 
 -- ---- flags that are put down one by one

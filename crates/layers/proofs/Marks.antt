@@ -47,7 +47,13 @@ apart_by true true true v h = absurd cc
 pub apart_cells : (t u c d : ℕ) (row s v w : ℤ) → not (nat_eq c d) ≡ true → same_note (n.Cell t row c v) (n.Cell u s d w) ≡ false
 apart_cells t u c d row s v w h = apart_by (nat_eq t u) (int_eq row s) (nat_eq c d) (int_eq v w) h
 
--- two readings are kept as they are, where nothing is shared
+-- no reading, and a single one, stand there once
+pub few_once : (rs : List Reading) → length rs < 2 → once (map note_of rs) ≡ map note_of rs
+few_once [] few = refl
+few_once (r ∷ []) few = refl
+few_once (r ∷ s ∷ rs) few = absurd (omega (arith, few))
+
+-- readings that are distinct are kept as they are, where nothing is shared
 pub two_kept : (ns ms r : List Note) (shared : List (List Note)) → ms ≡ ns → once ms ≡ ms → nat_eq (length shared) 0 ≡ true → r ≡ ms → r ≡ once ns ++ all_of shared
 two_kept ns ms r [] e o n f = f ∙ sym o ∙ ap once e ∙ sym (append-nil (once ns))
 two_kept ns ms r (x ∷ shared) e o n f = (let none : suc (length shared) ≡ 0 = (Decides-eqb (suc (length shared)) 0).0 n in absurd (omega (arith, none)))

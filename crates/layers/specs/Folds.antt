@@ -1,5 +1,5 @@
 -- What goes behind a layer: another one, or what a record has.
-use Rattle.std.specs.Prelude.{◌≡◌, ℕ, Bool, false, List, [], Option, Some, None, slice_get}
+use Rattle.std.specs.Prelude.{◌≡◌, ℕ, List, [], Option, Some, None}
 use Rattle.monoid_laws.specs.declared.Kind.{Kind}
 use Rattle.monoid_laws.specs.Worth.{Worth}
 use Rattle.monoid_laws.specs.Kinds.{operate_all, identities}
@@ -28,11 +28,3 @@ HasSameProduct left right new_left new_right = operate_all left.kinds new_left.w
 -- where the records of both fit the reducers' kinds, those that are made of them do
 abbrev pub BothHaveValues : List PlainRecord → List PlainRecord → List PlainRecord → Type 0
 BothHaveValues left right new = (kinds : List Kind) → HaveValues kinds left → HaveValues kinds right → HaveValues kinds new
-
-abbrev pub flag_in : Option Bool → Bool
-flag_in None = false
-flag_in (Some b) = b
-
--- a flag, which is down past the end
-abbrev pub flag_at : List Bool → ℕ → Bool
-flag_at ys i = flag_in (slice_get ys i)

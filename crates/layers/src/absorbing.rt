@@ -13,7 +13,7 @@ ghost use Rattle.instance_records.specs.Readings.{all_of};
 ghost use Rattle.positions.specs.Layers.{absorbing, covered, flagged, kept_behind, kept_reads};
 ghost use Rattle.layers.specs.Folds.{HasSameProduct, IsSameButWorths, combined_with, reads_in};
 
-use crate::joining::flag_all;
+use crate::joining::{flag_all, put_up};
 use crate::layer::Layer;
 use hypermaps::Hypermap;
 use instance_records::gift::Gift;
@@ -246,14 +246,5 @@ fn flag_entered(flags: &mut Vec<bool>, entered: &[(usize, u64)])
 {
     for entry in entered {
         put_up(flags, entry.0);
-    }
-}
-
-/// Puts up the flag of that number, where there is one.
-fn put_up(flags: &mut Vec<bool>, number: usize)
-    ensures up { flags.new.items ≡ slice_set flags.old.items number true }
-{
-    if number < flags.len() {
-        flags[number] = true;
     }
 }

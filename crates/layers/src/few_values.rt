@@ -16,7 +16,7 @@ use monoid_laws::{Kind, Val};
 use positions::identities::is_identity;
 use positions::touched::unless_identity;
 use std::alloc::{AllocError, Global};
-use view_pool::View;
+use view_pool::{View, let_go_short};
 
 /// A copy of the only reducer's value, unless it is the identity.
 #[inline(always)]
@@ -173,7 +173,7 @@ fn pair_listed(
 
 /// What two reducers were given, which most often takes no memory.
 #[inline(always)]
-pub(crate) fn two_gifts(alloc: Global, first: Val, second: Val) -> Result<[Gift; 2], AllocError>
+fn two_gifts(alloc: Global, first: Val, second: Val) -> Result<[Gift; 2], AllocError>
     ensures given { IfOk result (λ gifts.
         map touched (map given_by gifts) ≡ (0, meaning first) ∷ (1, meaning second) ∷ []) }
 {
@@ -207,15 +207,6 @@ fn two_long(alloc: Global, first: Val, second: Val) -> Result<[Gift; 2], AllocEr
     let one = Gift::new(alloc, 0, first)?;
     let two = Gift::new(alloc, 1, second)?;
     Ok([one, two])
-}
-
-/// Lets go a value that most often takes no memory.
-#[inline(always)]
-fn let_go_short(value: Val) {
-    match value {
-        Val::Int(_) | Val::Arg(_) => {}
-        other => let_go(other),
-    }
 }
 
 /// The list of those of these two values that aren't the identities.

@@ -1,9 +1,8 @@
 // A layer takes over what the right neighbour's layer has noted.
-ghost use Rattle.std.specs.Prelude.{◌≡◌, ◌≤◌, ◌+◌, ◌++◌, ◌||◌, All, OnOk, OnErr, vec_len, vec_capacity};
+ghost use Rattle.std.specs.Prelude.{◌≡◌, ◌≤◌, ◌+◌, ◌++◌, All, OnOk, OnErr, slice_set, true, vec_len, vec_capacity};
 ghost use Rattle.monoid_laws.specs.Kinds.{IsMonoid, operate_all};
 ghost use Rattle.instance_records.specs.Readings.{all_of};
 ghost use Rattle.positions.specs.Layers.{either, multiplied};
-ghost use Rattle.layers.specs.Folds.{flag_at};
 
 use crate::layer::Layer;
 use instance_records::readings::Readings;
@@ -51,28 +50,23 @@ fn append_shared(shared: &mut Vec<Readings>, more: &mut Vec<Readings>)
     let _ = shared.append(more);
 }
 
-/// Puts up the flags that are up in `others`.
+/// Puts up the flags that are up in `others`, of which few are.
 pub(crate) fn flag_all(flags: &mut Vec<bool>, others: &[bool])
     ensures either { flags.new.items ≡ either flags.old.items others.now }
 {
-    for i in 0..flags.len() {
-        flags[i] = is_up(flags[i], others, i);
+    for i in 0..others.len() {
+        if others[i] {
+            put_up(flags, i);
+        }
     }
 }
 
-/// Whether a flag is up, or the one of that number among the others.
-fn is_up(flag: bool, others: &[bool], number: usize) -> bool
-    ensures up { result ≡ (flag || flag_at others.now number) }
+/// Puts up the flag of that number, where there is one.
+#[inline(always)]
+pub(crate) fn put_up(flags: &mut Vec<bool>, number: usize)
+    ensures up { flags.new.items ≡ slice_set flags.old.items number true }
 {
-    flag || is_raised(others, number)
-}
-
-/// Whether the flag of that number is up; past the end none is.
-fn is_raised(flags: &[bool], number: usize) -> bool
-    ensures raised { result ≡ flag_at flags.now number }
-{
-    match flags.get(number) {
-        Some(flag) => *flag,
-        None => false,
+    if number < flags.len() {
+        flags[number] = true;
     }
 }

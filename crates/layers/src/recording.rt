@@ -1,5 +1,5 @@
 //! What is kept of a memo instance whose layer is open, and what a record keeps of the layer once it is over.
-ghost use Rattle.std.specs.Prelude.{true, false, suc, ◌≡◌, ◌<◌, ◌++◌, ℕ, IfOk, IfSome, List, OnOk, length, map, slice_get};
+ghost use Rattle.std.specs.Prelude.{true, false, suc, ◌≡◌, ◌<◌, ◌≤◌, ◌++◌, ℕ, IfOk, IfSome, List, OnOk, length, map, slice_get};
 ghost use Rattle.meaning.specs.Tree.{Name};
 ghost use Rattle.monoid_laws.specs.Worth.{Worth};
 ghost use Rattle.monoid_laws.specs.Kinds.{meaning};
@@ -341,19 +341,23 @@ fn kept_reads(alloc: Global, notes: &Notes, shared: &[Readings]) -> Result<Readi
     ensures kept { IfOk result (λ r. r ≡ once notes.now ++ all_of shared.now) }
 {
     let found = notes.readings();
-    if shared.is_empty() && are_of_two_columns(found) {
-        return Ok(two_reads(found));
+    if shared.is_empty() && are_of_few_columns(found) {
+        return Ok(few_reads(found));
     }
     all_reads(alloc, notes, shared)
 }
 
-/// Two readings. It takes no memory.
+/// No more than two readings. It takes no memory.
 #[inline(always)]
-pub(crate) fn two_reads(found: &[Reading]) -> Readings
-    requires two { length found.now ≡ 2 }
+pub(crate) fn few_reads(found: &[Reading]) -> Readings
+    requires few { length found.now ≤ 2 }
     ensures same { result ≡ map note_of found.now }
 {
-    Readings::of_two([found[0], found[1]])
+    match found.len() {
+        0 => Readings::nothing(),
+        1 => Readings::of_one(found[0]),
+        _ => Readings::of_two([found[0], found[1]]),
+    }
 }
 
 /// A layer's own readings, each once, and then those that it shares, however many. Those of one instance alone are handed on as they are.
@@ -411,14 +415,15 @@ fn are_distinct(found: &[Reading]) -> bool
     true
 }
 
-/// Whether these are readings of two cells in different columns.
+/// Whether these are no more than two readings, and two are of cells in different columns.
 #[inline(always)]
-pub(crate) fn are_of_two_columns(found: &[Reading]) -> bool
-    ensures two { result ≡ true → length found.now ≡ 2 }
+#[tactic(auto, using(crate::proofs::Marks::few_once))]
+pub(crate) fn are_of_few_columns(found: &[Reading]) -> bool
+    ensures few { result ≡ true → length found.now ≤ 2 }
     ensures distinct { result ≡ true → once (map note_of found.now) ≡ map note_of found.now }
 {
     if found.len() != 2 {
-        return false;
+        return found.len() < 2;
     }
     let first = &found[0];
     let second = &found[1];

@@ -1,18 +1,16 @@
 //! What a strand has counted and recorded of memo instances.
-ghost use Rattle.std.specs.Prelude.{◌≡◌, ◌∷◌, [], suc, ◌+◌, IfOk, OnErr, OnOk, All, length, map};
-ghost use Rattle.monoid_laws.specs.Kinds.{IsMonoid, identities};
-ghost use Rattle.record_theory.specs.Record.{touched};
+ghost use Rattle.std.specs.Prelude.{◌≡◌, ◌∷◌, [], suc, ◌+◌, ◌≤◌, true, false, IfOk, OnErr, OnOk, All, length};
+ghost use Rattle.monoid_laws.specs.Kinds.{IsMonoid, identities, meaning};
 ghost use Rattle.record_theory.specs.Named.{AreValuesFrom, HaveValues};
-ghost use Rattle.instance_records.specs.Gifts.{given_by};
 ghost use Rattle.positions.specs.Layers.{multiplied, covered, absorbing, kept_reads};
 ghost use Rattle.positions.specs.Tallies.{no_tally, passing, answering, opening, is_own, closing, tallies_joined, touched_from, entries_from};
 ghost use Rattle.layers.specs.Folds.{IsSameButWorths, HasSameProduct, BothHaveValues};
+ghost use Rattle.view_pool.specs.Short.{value_in};
 
-use crate::few_values::{let_go, two_gifts};
+use crate::few_values::let_go;
 use crate::layer::Layer;
-use crate::leaves::{Leaf, are_touched, record_of_two};
+use crate::leaves::{Leaf, record_of_two};
 use crate::recording::Opened;
-use instance_records::gift::Gift;
 use instance_records::record::Record;
 use linked_program::checked::Checked;
 use list_pieces::pieces::Pieces;
@@ -215,12 +213,79 @@ impl Tally {
         ensures below_kept { OnErr result (IsSameButWorths below.old below.new) }
         ensures product { OnErr result (HasSameProduct below.old top.old below.new top.new) }
     {
-        if top.is_of_two(program) {
-            if let Some(entry) = top.only_entry(program) {
-                return self.close_leaf(alloc, top, below, value, program, entry);
-            }
+        match top.leaf(program, value) {
+            Some(leaf) => self.close_leaf(top, below, program, leaf),
+            None => self.close_any(alloc, top, below, value, program),
         }
-        self.close_any(alloc, top, below, value, program)
+    }
+
+    /// The instance that was executed in the topmost layer is over with that value: it is counted, its layer becomes a record and goes
+    /// behind the layer below it, as if it were opened and closed at once. Whether that was done; where it wasn't, nothing has changed. Where
+    /// memory is refused meanwhile, the instance is opened alone, and some reducers have moved to the lower layer.
+    #[inline(always)]
+    pub fn record<V: View>(
+        &mut self,
+        alloc: Global,
+        opened: Opened,
+        top: &mut Layer<V>,
+        below: &mut Layer<V>,
+        value: i64,
+        program: &Checked,
+    ) -> Result<bool, AllocError>
+        requires kinds { top.old.kinds ≡ program.now.kinds }
+        requires same_kinds { below.old.kinds ≡ top.old.kinds }
+        requires monoids { All IsMonoid below.old.kinds }
+        ensures closed { IfOk result (λ done. done ≡ true
+            → self.new ≡ closing program.now.revisions top.old value (opening opened self.old)) }
+        ensures covered { IfOk result (λ done. done ≡ true → below.new ≡ covered below.old top.old) }
+        ensures emptied { IfOk result (λ done. done ≡ true → top.new.worths ≡ identities top.old.kinds) }
+        ensures same { IfOk result (λ done. done ≡ false → self.new ≡ self.old) }
+        ensures same_below { IfOk result (λ done. done ≡ false → below.new ≡ below.old) }
+        ensures opened { OnErr result (self.new ≡ opening opened self.old) }
+        ensures top_kinds { top.new.kinds ≡ top.old.kinds }
+        ensures below_kinds { below.new.kinds ≡ below.old.kinds }
+        ensures values { HaveValues top.old.kinds self.old.made
+            → HaveValues top.old.kinds self.new.made }
+    {
+        match top.leaf(program, value) {
+            Some(leaf) => self.record_leaf(opened, top, below, program, leaf),
+            None => self.record_any(alloc, opened, top, below, value, program),
+        }
+    }
+
+    /// The same of whatever layer.
+    #[inline(never)]
+    fn record_any<V: View>(
+        &mut self,
+        alloc: Global,
+        opened: Opened,
+        top: &mut Layer<V>,
+        below: &mut Layer<V>,
+        value: i64,
+        program: &Checked,
+    ) -> Result<bool, AllocError>
+        requires kinds { top.old.kinds ≡ program.now.kinds }
+        requires same_kinds { below.old.kinds ≡ top.old.kinds }
+        requires monoids { All IsMonoid below.old.kinds }
+        ensures closed { IfOk result (λ done. done ≡ true
+            → self.new ≡ closing program.now.revisions top.old value (opening opened self.old)) }
+        ensures covered { IfOk result (λ done. done ≡ true → below.new ≡ covered below.old top.old) }
+        ensures emptied { IfOk result (λ done. done ≡ true → top.new.worths ≡ identities top.old.kinds) }
+        ensures same { IfOk result (λ done. done ≡ false → self.new ≡ self.old) }
+        ensures same_below { IfOk result (λ done. done ≡ false → below.new ≡ below.old) }
+        ensures opened { OnErr result (self.new ≡ opening opened self.old) }
+        ensures top_kinds { top.new.kinds ≡ top.old.kinds }
+        ensures below_kinds { below.new.kinds ≡ below.old.kinds }
+        ensures values { HaveValues top.old.kinds self.old.made
+            → HaveValues top.old.kinds self.new.made }
+    {
+        if self.open(opened).is_err() {
+            return Ok(false);
+        }
+        match self.close_any(alloc, top, below, value, program) {
+            Ok(()) => Ok(true),
+            Err(error) => Err(error),
+        }
     }
 
     /// The same of whatever layer.
@@ -262,74 +327,22 @@ impl Tally {
         Ok(())
     }
 
-    /// The same of a layer of two reducers, two readings and that procedure with its revision number.
+    /// The same of a layer whose record is made of that.
     #[inline(always)]
     fn close_leaf<V: View>(
-        &mut self,
-        alloc: Global,
-        top: &mut Layer<V>,
-        below: &mut Layer<V>,
-        value: i64,
-        program: &Checked,
-        entry: (usize, u64),
-    ) -> Result<(), AllocError>
-        requires two_kinds { length program.now.kinds ≡ 2 }
-        requires two_notes { length top.old.notes ≡ 2 }
-        requires kept { kept_reads top.old ≡ top.old.notes }
-        requires entry { entries_from 0 program.now.revisions top.old.entered ≡ entry ∷ [] }
-        requires kinds { top.old.kinds ≡ program.now.kinds }
-        requires same_kinds { below.old.kinds ≡ top.old.kinds }
-        requires monoids { All IsMonoid below.old.kinds }
-        ensures closed { OnOk result
-            (self.new ≡ closing program.now.revisions top.old value self.old) }
-        ensures covered { OnOk result (below.new ≡ covered below.old top.old) }
-        ensures emptied { OnOk result (top.new.worths ≡ identities top.old.kinds) }
-        ensures top_kinds { top.new.kinds ≡ top.old.kinds }
-        ensures below_kinds { below.new.kinds ≡ below.old.kinds }
-        ensures values { HaveValues top.old.kinds self.old.made
-            → HaveValues top.old.kinds self.new.made }
-        ensures unchanged { OnErr result (self.new ≡ self.old) }
-        ensures top_kept { OnErr result (IsSameButWorths top.old top.new) }
-        ensures below_kept { OnErr result (IsSameButWorths below.old below.new) }
-        ensures product { OnErr result (HasSameProduct below.old top.old below.new top.new) }
-    {
-        let levels = top.levels()?;
-        let leaf = Leaf {
-            procedure: entry.0,
-            revision: entry.1,
-            levels,
-            value,
-        };
-        let first = top.hypermap.value(0)?;
-        let Ok(second) = top.hypermap.value(1) else {
-            let_go(first);
-            return Err(AllocError);
-        };
-        if !are_touched(&top.hypermap, program.kinds(), &first, &second) {
-            let_go(first);
-            let_go(second);
-            return self.close_any(alloc, top, below, value, program);
-        }
-        let gifts = two_gifts(alloc, first, second)?;
-        self.close_of_two(top, below, program, gifts, leaf)
-    }
-
-    /// The same with what the instance gave to the two reducers.
-    #[inline(always)]
-    fn close_of_two<V: View>(
         &mut self,
         top: &mut Layer<V>,
         below: &mut Layer<V>,
         _program: &Checked,
-        gifts: [Gift; 2],
         leaf: Leaf,
     ) -> Result<(), AllocError>
-        requires two_notes { length top.old.notes ≡ 2 }
+        requires few { length top.old.notes ≤ 2 }
         requires kept { kept_reads top.old ≡ top.old.notes }
         requires entry { entries_from 0 _program.now.revisions top.old.entered ≡ (leaf.procedure, leaf.revision) ∷ [] }
         requires levels { leaf.levels ≡ suc top.old.deepest }
+        requires worths { top.old.worths ≡ meaning (value_in leaf.first) ∷ meaning (value_in leaf.second) ∷ [] }
         requires touched { touched_from 0 top.old.kinds top.old.worths
-            ≡ map touched (map given_by gifts) }
+            ≡ (0, meaning (value_in leaf.first)) ∷ (1, meaning (value_in leaf.second)) ∷ [] }
         requires kinds { top.old.kinds ≡ _program.now.kinds }
         requires same_kinds { below.old.kinds ≡ top.old.kinds }
         requires monoids { All IsMonoid below.old.kinds }
@@ -347,22 +360,71 @@ impl Tally {
         ensures product { OnErr result (HasSameProduct below.old top.old below.new top.new) }
     {
         top.of_kinds();
-        if self.made.make_room().is_err() {
-            let_go(gifts);
-            return Err(AllocError);
-        }
-        if below.cover_of_two(top).is_err() {
-            let_go(gifts);
-            return Err(AllocError);
-        }
+        self.made.make_room()?;
+        below.cover_of_few(top, leaf.first, leaf.second)?;
         match self.opened.pop() {
             Some(opened) => {
                 let found = top.notes.readings();
-                self.made.push(record_of_two(opened, gifts, found, leaf));
+                self.made.push(record_of_two(opened, found, leaf));
             }
-            None => let_go(gifts),
+            None => {}
         }
         Ok(())
+    }
+
+    /// The same of an instance that isn't opened: it is recorded without that.
+    #[inline(always)]
+    fn record_leaf<V: View>(
+        &mut self,
+        opened: Opened,
+        top: &mut Layer<V>,
+        below: &mut Layer<V>,
+        _program: &Checked,
+        leaf: Leaf,
+    ) -> Result<bool, AllocError>
+        requires few { length top.old.notes ≤ 2 }
+        requires kept { kept_reads top.old ≡ top.old.notes }
+        requires entry { entries_from 0 _program.now.revisions top.old.entered ≡ (leaf.procedure, leaf.revision) ∷ [] }
+        requires levels { leaf.levels ≡ suc top.old.deepest }
+        requires worths { top.old.worths ≡ meaning (value_in leaf.first) ∷ meaning (value_in leaf.second) ∷ [] }
+        requires touched { touched_from 0 top.old.kinds top.old.worths
+            ≡ (0, meaning (value_in leaf.first)) ∷ (1, meaning (value_in leaf.second)) ∷ [] }
+        requires kinds { top.old.kinds ≡ _program.now.kinds }
+        requires same_kinds { below.old.kinds ≡ top.old.kinds }
+        requires monoids { All IsMonoid below.old.kinds }
+        ensures closed { IfOk result (λ done. done ≡ true
+            → self.new ≡ closing _program.now.revisions top.old leaf.value (opening opened self.old)) }
+        ensures covered { IfOk result (λ done. done ≡ true → below.new ≡ covered below.old top.old) }
+        ensures emptied { IfOk result (λ done. done ≡ true → top.new.worths ≡ identities top.old.kinds) }
+        ensures same { IfOk result (λ done. done ≡ false → self.new ≡ self.old) }
+        ensures same_below { IfOk result (λ done. done ≡ false → below.new ≡ below.old) }
+        ensures opened { OnErr result (self.new ≡ opening opened self.old) }
+        ensures top_kinds { top.new.kinds ≡ top.old.kinds }
+        ensures below_kinds { below.new.kinds ≡ below.old.kinds }
+        ensures values { HaveValues top.old.kinds self.old.made
+            → HaveValues top.old.kinds self.new.made }
+    {
+        top.of_kinds();
+        let Ok(executed) = one_more(self.executed) else {
+            let_go(opened);
+            return Ok(false);
+        };
+        if self.opened.reserve(1).is_err() {
+            let_go(opened);
+            return Ok(false);
+        }
+        if self.made.make_room().is_err() {
+            let_go(opened);
+            return Ok(false);
+        }
+        self.executed = executed;
+        if below.cover_of_few(top, leaf.first, leaf.second).is_err() {
+            self.opened.push_reserved(opened);
+            return Err(AllocError);
+        }
+        let found = top.notes.readings();
+        self.made.push(record_of_two(opened, found, leaf));
+        Ok(true)
     }
 
     /// Puts the right strand's tally behind this one, and its layer behind this one's. Where memory is refused, some reducers

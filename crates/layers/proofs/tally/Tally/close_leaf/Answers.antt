@@ -4,8 +4,8 @@ use Rattle.record_theory.specs.Record.{PlainRecord}
 use Rattle.positions.specs.Tallies.{PlainTally, touched_from}
 use Rattle.list_pieces.specs.Pieces.{items_in}
 use Rattle.layers.proofs.Touches.{one_more_values, touched_values}
-use Rattle.layers.proofs.tally.Tally.close_of_two.Goals as goal
-use Rattle.layers.proofs.tally.Tally.close_of_two.Goals.{in-Some, in-None}
+use Rattle.layers.proofs.tally.Tally.close_leaf.Goals as goal
+use Rattle.layers.proofs.tally.Tally.close_leaf.Goals.{in-Some, in-None}
 
 pub returns-clause-values : goal.returns-clause-values
 returns-clause-values g c = λ h.
