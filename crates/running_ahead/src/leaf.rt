@@ -97,13 +97,7 @@ fn close<V: View>(
     let Ok(opened) = Opened::new(alloc, leaf.callee, &[leaf.number], leaf.left, 0) else {
         return Ok(false);
     };
-    if tally.open(opened).is_err() {
-        return Ok(false);
-    }
-    match tally.close(alloc, own, layer, value, program) {
-        Ok(()) => Ok(true),
-        Err(error) => Err(error),
-    }
+    tally.record(alloc, opened, own, layer, value, program)
 }
 
 /// An iteration that no record answers, in that layer, in which nothing was noted yet. Whether it was done, and then its layer is at the
