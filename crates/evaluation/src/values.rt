@@ -45,13 +45,29 @@ fn noted_value(
     ensures ends { Ends (λ v. v) (value_at tables.now.tables slots.now (plain expression.now)) notes.old notes.new result }
 {
     let before = notes.len();
-    match evaluate(expression, slots, tables, notes) {
+    match read_value(expression, slots, tables, notes) {
         Ok(value) => Ok(value),
         Err(Stop::Fault(kind)) => Err(Stop::Fault(kind)),
         Err(Stop::NoMemory) => {
             notes.truncate(before);
             Err(Stop::NoMemory)
         }
+    }
+}
+
+// The same, that of an operator on two cells of one row without a call; where memory is refused, the notes so far stay.
+#[inline(always)]
+fn read_value(
+    expression: &Expression,
+    slots: &[Slot],
+    tables: &Tables,
+    notes: &mut Notes,
+) -> Result<i64, Stop>
+    ensures stops { Stops (λ v. v) (value_at tables.now.tables slots.now (plain expression.now)) notes.old notes.new result }
+{
+    match expression {
+        Expression::OnRow(operator, cells) => row_value(*operator, cells, slots, tables, notes),
+        _ => evaluate(expression, slots, tables, notes),
     }
 }
 
@@ -285,10 +301,24 @@ pub fn number_in(slots: &[Slot], number: usize) -> i64
     }
 }
 
-// The value of an operator on two cells of one row, or its fault. Most rows are found at once.
+// The value of an operator on two cells of one row, or its fault. It is kept out of `evaluate`.
 #[inline(never)]
-#[tactic(auto, using(crate::proofs::Rows::noted_end))]
 fn two_cells(
+    operator: Operator,
+    cells: &RowCells,
+    slots: &[Slot],
+    tables: &Tables,
+    notes: &mut Notes,
+) -> Result<i64, Stop>
+    ensures stops { Stops (λ v. v) (value_at tables.now.tables slots.now (on_row operator cells.now)) notes.old notes.new result }
+{
+    row_value(operator, cells, slots, tables, notes)
+}
+
+// The value of an operator on two cells of one row, or its fault. Most rows are found at once.
+#[inline(always)]
+#[tactic(auto, using(crate::proofs::Rows::noted_end))]
+fn row_value(
     operator: Operator,
     cells: &RowCells,
     slots: &[Slot],

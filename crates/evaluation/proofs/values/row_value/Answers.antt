@@ -5,7 +5,7 @@ use Rattle.evaluation.specs.declared.note.Note.{Note}
 use Rattle.evaluation.specs.Values.{value_at}
 use Rattle.evaluation.specs.Ends.{Stops}
 use Rattle.evaluation.proofs.Rows.{noted_end}
-use Rattle.evaluation.proofs.values.two_cells.Goals as goal
+use Rattle.evaluation.proofs.values.row_value.Goals as goal
 
 pub returns-in-Some : goal.returns-in-Some
 returns-in-Some c =
