@@ -5,3 +5,4 @@ pub mod Whole
 pub mod Traces
 pub mod Replays
 pub mod Stepping
+pub mod Thefts

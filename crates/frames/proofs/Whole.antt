@@ -2,6 +2,7 @@
 use Rattle.std.proofs.Common.{◌≡◌, ℕ, ℤ, Bool, List, [], ◌∷◌, length, All, Option, Some, None, Result, Ok, Err, OnOk, OnErr, refl, sym, ap, ◌∙◌, subst, arith}
 use Rattle.std.proofs.lemmas.List.Elements.{All-cons, All-tail, All-nil}
 use Rattle.monoid_laws.specs.declared.Kind.{Kind}
+use Rattle.linked_program.specs.declared.code.Code.{Code}
 use Rattle.record_theory.specs.Record.{PlainRecord}
 use Rattle.record_theory.specs.Named.{HasValuesIfAnswers, HaveValues}
 use Rattle.positions.specs.declared.phase.Phase.{Phase}
@@ -12,8 +13,9 @@ use Rattle.positions.specs.Layers.{PlainLayer}
 use Rattle.positions.specs.Tallies.{PlainTally, no_tally}
 use Rattle.positions.specs.Strands.{PlainStrand, PlainTask, IsLayered, IsLayeredAt}
 use Rattle.positions.specs.Advance.{advanced}
-use Rattle.positions.specs.Moves.{resumed, resumed_by, returned_at, joined_at, joined_after, joined_ended, joined, lowest_alone}
+use Rattle.positions.specs.Moves.{stolen, resumed, resumed_by, returned_at, joined_at, joined_after, joined_ended, joined, lowest_alone}
 use Rattle.position_theory.proofs.Layered.{layers_kept}
+use Rattle.strand_moves.specs.Bare.{IsBare}
 use Rattle.strand_moves.specs.Joins.{IsDone, HasFault, with_worths}
 use Rattle.small_steps.specs.Steps.{IsWhole, IsValued, revalued, revalued_first}
 use Rattle.small_steps.proofs.Keeping.{kinds_kept}
@@ -171,3 +173,11 @@ over_whole s e f = record {
 pub over_or : {A E : Type 0} (r new : PlainStrand) (res : Result A E) → OnOk res (new.lower ≡ []) → OnOk res (new.tally ≡ no_tally) → OnErr res (new ≡ with_worths new.layer.worths r) → IsWhole r → IsWhole new
 over_or r new (Ok a) e f kept h = over_whole new e f
 over_or r new (Err x) e f kept h = worths_whole r new kept h
+
+-- one that holds nothing, and one in which that of a stolen continuation has begun, or that holds nothing still
+pub bare_whole : (s : PlainStrand) → IsBare s → IsWhole s
+bare_whole s h = over_whole s h.lower h.tally
+
+pub begun_or : {A E : Type 0} (codes : List Code) (kit : List Kind) (task : PlainTask) (new : PlainStrand) (res : Result A E) → OnOk res (new ≡ stolen codes kit task) → OnErr res (IsBare new) → IsWhole new
+begun_or codes kit task new (Ok a) is bare = over_whole new (ap (λ (s : PlainStrand). s.lower) is) (ap (λ (s : PlainStrand). s.tally) is)
+begun_or codes kit task new (Err e) is bare = bare_whole new bare

@@ -4,12 +4,14 @@ ghost use Rattle.monoid_laws.specs.Kinds.{IsMonoid, operate_all};
 ghost use Rattle.positions.specs.Setting.{Setting};
 ghost use Rattle.positions.specs.Moves.{joined, FoldsViews};
 ghost use Rattle.positions.specs.Simulation.{IsJoined};
+ghost use Rattle.positions.specs.Tallies.{no_tally};
+ghost use Rattle.strand_moves.specs.Bare.{IsBare};
 ghost use Rattle.strand_moves.specs.Joins.{IsDone, with_worths};
 
 use crate::strand::Strand;
 use std::alloc::AllocError;
+use strand_moves::bare::lay_bare;
 use strand_moves::joining;
-use strand_moves::lists::WorkLists;
 use view_pool::{Kit, View};
 
 impl<V: View> Strand<V> {
@@ -40,7 +42,7 @@ impl<V: View> Strand<V> {
         }
     }
 
-    /// The same, where the right neighbour stays where it lies: joined it holds nothing any more but what `let_go` takes.
+    /// The same, where the right neighbour stays where it lies: joined it holds nothing any more but what `lay_bare` takes.
     pub fn join_there(&mut self, right: &mut Strand<V>) -> Result<(), AllocError>
         requires done { IsDone self.old.phase }
         requires one_layer { right.old.lower ≡ [] }
@@ -48,6 +50,8 @@ impl<V: View> Strand<V> {
         requires monoids { All IsMonoid self.old.layer.kinds }
         ensures joined { OnOk result (self.new ≡ joined self.old right.old) }
         ensures kinds { right.new.layer.kinds ≡ right.old.layer.kinds }
+        ensures bare { OnOk result (right.new.lower ≡ []) }
+        ensures uncounted { OnOk result (right.new.tally ≡ no_tally) }
         ensures left_kept { OnErr result (self.new ≡ with_worths self.new.layer.worths self.old) }
         ensures right_kept { OnErr result (right.new ≡ with_worths right.new.layer.worths right.old) }
         ensures product { OnErr result
@@ -57,15 +61,17 @@ impl<V: View> Strand<V> {
         joining::join_there(&mut self.machine, &mut right.machine)
     }
 
-    /// The kit of a strand with one layer that is let go. This strand keeps the lists of its topmost instance, and the layer's are put to
-    /// the others.
+    /// Takes the kit of a strand with one layer that has nothing counted, and leaves one that holds nothing, with its lists. This strand
+    /// takes those of its topmost instance. It takes no memory.
     #[inline(always)]
-    pub fn let_go(&mut self, over: Strand<V>, lists: &mut WorkLists) -> Kit<V>
+    pub fn lay_bare(&mut self, over: &mut Strand<V>) -> Kit<V>
+        requires one_layer { over.old.lower ≡ [] }
+        requires uncounted { over.old.tally ≡ no_tally }
         ensures same { self.new ≡ self.old }
-        ensures kit { result ≡ over.layer.kinds }
+        ensures kit { result ≡ over.old.layer.kinds }
+        ensures bare { IsBare over.new }
     {
-        let Strand { machine } = over;
-        joining::let_go(&mut self.machine, machine, lists)
+        lay_bare(&mut self.machine, &mut over.machine)
     }
 
     /// The kit of a strand with one layer that is let go. It takes no memory.

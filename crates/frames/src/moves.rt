@@ -1,17 +1,18 @@
 // Strands that begin, and what is taken out of a strand and put back.
-ghost use Rattle.std.specs.Prelude.{◌≡◌, ◌∷◌, [], List, IfOk, IfErr};
+ghost use Rattle.std.specs.Prelude.{◌≡◌, ◌∷◌, [], List, IfOk, IfErr, OnOk, OnErr};
 ghost use Rattle.meaning.specs.Tables.{Tables};
 ghost use Rattle.meaning.specs.Records.{Kept};
 ghost use Rattle.record_theory.specs.Record.{PlainRecord};
 ghost use Rattle.positions.specs.Setting.{Setting, setting_with};
 ghost use Rattle.positions.specs.Simulation.{IsFirst, IsStolen, IsInlined, IsDetached, IsAttached, IsResumed, IsUpdateNext};
 ghost use Rattle.positions.specs.Moves.{first_strand, stolen, inlined, detached, attached, returned_of, resumed, at_update};
+ghost use Rattle.strand_moves.specs.Bare.{IsBare};
 
 use crate::strand::Strand;
 use linked_program::checked::Checked;
 use positions::phase::Phase;
 use std::alloc::{AllocError, Global};
-use strand_moves::lists::WorkLists;
+use strand_moves::bare::bare;
 use strand_moves::moves;
 use strand_moves::moves::{call_child, go_on_with, put_back, take_out, updates_next};
 use strand_moves::task::Task;
@@ -43,15 +44,44 @@ impl<V: View> Strand<V> {
         }
     }
 
-    /// The strand of a stolen continuation, which begins behind the spawned child, with lists of those that are there. Want of memory is
-    /// the only error; it hands the continuation and the kit back.
+    /// A strand that holds nothing, in which that of a stolen continuation may begin. It takes no memory.
+    pub fn bare(alloc: Global) -> Strand<V>
+        ensures bare { IsBare result }
+    {
+        let machine = bare(alloc);
+        Strand { machine }
+    }
+
+    /// In a strand that holds nothing that of a stolen continuation begins, behind the spawned child. Want of memory is the only error;
+    /// it hands the continuation and the kit back, and the strand holds nothing still.
     #[inline(always)]
+    pub fn begin_stolen(
+        &mut self,
+        program: &Checked,
+        task: Task,
+        kit: Kit<V>,
+    ) -> Result<(), (AllocError, Task, Kit<V>)>
+        requires bare { IsBare self.old }
+        requires kinds { kit ≡ program.now.kinds }
+        ensures stolen { OnOk result (self.new ≡ stolen program.now.codes kit task) }
+        ensures definition { (tables : Tables) (kept : List Kept) (records : List PlainRecord)
+            → OnOk result (IsStolen (setting_with program.now tables kept records) task self.new) }
+        ensures bare { OnErr result (IsBare self.new) }
+        ensures task_back { IfErr result (λ e. e.1 ≡ task) }
+        ensures kit_back { IfErr result (λ e. e.2 ≡ kit) }
+    {
+        // What the program's type keeps: so the strand is the one that a theft gives by its tree.
+        program.linked();
+        moves::begin_stolen(&mut self.machine, program, task, kit)
+    }
+
+    /// The strand of a stolen continuation, which begins behind the spawned child. Want of memory is the only error; it hands the
+    /// continuation and the kit back.
     pub fn stolen(
         alloc: Global,
         program: &Checked,
         task: Task,
         kit: Kit<V>,
-        lists: &mut WorkLists,
     ) -> Result<Strand<V>, (AllocError, Task, Kit<V>)>
         requires kinds { kit ≡ program.now.kinds }
         ensures stolen { IfOk result (λ strand. strand ≡ stolen program.now.codes kit task) }
@@ -61,10 +91,9 @@ impl<V: View> Strand<V> {
         ensures task_back { IfErr result (λ e. e.1 ≡ task) }
         ensures kit_back { IfErr result (λ e. e.2 ≡ kit) }
     {
-        // What the program's type keeps: so the strand is the one that a theft gives by its tree.
-        program.linked();
-        match moves::stolen(alloc, program, task, kit, lists) {
-            Ok(machine) => Ok(Strand { machine }),
+        let mut strand = Strand::bare(alloc);
+        match strand.begin_stolen(program, task, kit) {
+            Ok(()) => Ok(strand),
             Err(refused) => Err(refused),
         }
     }

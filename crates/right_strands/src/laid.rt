@@ -25,7 +25,7 @@ use view_pool::{Kit, KitSource, View};
 /// in which its worker had it.
 #[derive(Drop)]
 pub struct Piece<J: Run, V: View = Box<dyn View>> {
-    pub(crate) strand: Box<RightStrand<J, V>>,
+    pub(crate) strand: RightStrand<J, V>,
     pub(crate) state: LaidState,
 }
 
@@ -35,10 +35,10 @@ impl<J: Run, V: View> Model for Piece<J, V> {
 
     ghost Value = { PlainPiece };
 
-    ghost view = { λ p. record { strand = p.strand.value.strand; state = p.state } };
+    ghost view = { λ p. record { strand = p.strand.strand; state = p.state } };
 
-    ghost invariant = { λ p. (p.strand.value.failed ≡ false)
-        × IsPausedAs J.setting.codes p.state p.strand.value.strand };
+    ghost invariant = { λ p. (p.strand.failed ≡ false)
+        × IsPausedAs J.setting.codes p.state p.strand.strand };
 }
 
 impl<J: Run, V: View> Piece<J, V> {
@@ -46,18 +46,18 @@ impl<J: Run, V: View> Piece<J, V> {
     /// layers of one with a fault go home.
     pub fn lay<K: KitSource<Kit<V>>>(
         scene: &Scene<'_, J>,
-        strand: Box<RightStrand<J, V>>,
+        strand: RightStrand<J, V>,
         kits: &mut K,
-    ) -> Result<Piece<J, V>, Box<RightStrand<J, V>>>
+    ) -> Result<Piece<J, V>, RightStrand<J, V>>
         requires fits { K.fits J.setting.kinds kits.old }
-        ensures laid { IfOk result (λ p. p.strand ≡ laid_as p.state strand.value.strand) }
+        ensures laid { IfOk result (λ p. p.strand ≡ laid_as p.state strand.strand) }
         ensures back { IfErr result (λ s. s ≡ strand) }
         ensures fitting { (k : List Kind) → K.fits k kits.old → K.fits k kits.new }
         ensures gives_known { (k : List Kind) → K.gives k kits.new
             → K.gives k kits.old ⊎ J.setting.kinds ≡ k }
-        ensures home { length strand.value.strand.lower + K.free kits.old ≤ K.total kits.old
+        ensures home { length strand.strand.lower + K.free kits.old ≤ K.total kits.old
             → IfOk result (λ p. K.free kits.new + length p.strand.lower
-            ≡ length strand.value.strand.lower + K.free kits.old) }
+            ≡ length strand.strand.lower + K.free kits.old) }
         ensures away { IfErr result (λ s. K.free kits.new ≡ K.free kits.old) }
         ensures total { K.total kits.new ≡ K.total kits.old }
     {
@@ -74,29 +74,26 @@ impl<J: Run, V: View> Piece<J, V> {
     }
 
     /// The strand laid down at that point.
-    fn at(strand: Box<RightStrand<J, V>>, state: LaidState) -> Piece<J, V>
-        requires going { strand.value.failed ≡ false }
-        requires paused_so { IsPausedAs J.setting.codes state strand.value.strand }
-        ensures laid { result ≡ record { strand = strand.value.strand; state = state } }
+    fn at(strand: RightStrand<J, V>, state: LaidState) -> Piece<J, V>
+        requires going { strand.failed ≡ false }
+        requires paused_so { IsPausedAs J.setting.codes state strand.strand }
+        ensures laid { result ≡ record { strand = strand.strand; state = state } }
     {
         Piece { strand, state }
     }
 
     /// The strand with a fault, laid down with its lowest layer alone.
-    fn faulted<K: KitSource<Kit<V>>>(
-        mut strand: Box<RightStrand<J, V>>,
-        kits: &mut K,
-    ) -> Piece<J, V>
-        requires going { strand.value.failed ≡ false }
-        requires faulted { pause_of J.setting.codes strand.value.strand ≡ Paused.Faulted }
+    fn faulted<K: KitSource<Kit<V>>>(mut strand: RightStrand<J, V>, kits: &mut K) -> Piece<J, V>
+        requires going { strand.failed ≡ false }
+        requires faulted { pause_of J.setting.codes strand.strand ≡ Paused.Faulted }
         requires fits { K.fits J.setting.kinds kits.old }
         ensures laid { result
-            ≡ record { strand = lowest_alone strand.value.strand; state = LaidState.Faulted } }
+            ≡ record { strand = lowest_alone strand.strand; state = LaidState.Faulted } }
         ensures fitting { (k : List Kind) → K.fits k kits.old → K.fits k kits.new }
         ensures gives_known { (k : List Kind) → K.gives k kits.new
             → K.gives k kits.old ⊎ J.setting.kinds ≡ k }
-        ensures home { length strand.value.strand.lower + K.free kits.old ≤ K.total kits.old
-            → K.free kits.new ≡ length strand.value.strand.lower + K.free kits.old }
+        ensures home { length strand.strand.lower + K.free kits.old ≤ K.total kits.old
+            → K.free kits.new ≡ length strand.strand.lower + K.free kits.old }
         ensures total { K.total kits.new ≡ K.total kits.old }
     {
         strand.close_upper(kits);
@@ -200,12 +197,12 @@ impl<J: Run, V: View> Piece<J, V> {
         ensures kinds { self.strand.layer.kinds ≡ J.setting.kinds }
     {
         let Piece { strand, state: _ } = self;
-        Box::into_inner(strand).into_strand()
+        strand.into_strand()
     }
 
-    /// The strand in its box.
-    pub(crate) fn into_box(self) -> Box<RightStrand<J, V>>
-        ensures strand { result.value.strand ≡ self.strand }
+    /// The strand as its worker had it.
+    pub(crate) fn into_right(self) -> RightStrand<J, V>
+        ensures strand { result.strand ≡ self.strand }
         ensures right { IsRightStrand J.setting self.strand }
         ensures paused_so { IsPausedAs J.setting.codes self.state self.strand }
         ensures kinds { self.strand.layer.kinds ≡ J.setting.kinds }

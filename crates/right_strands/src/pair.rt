@@ -4,8 +4,8 @@ ghost use Rattle.positions.specs.Moves.{joined};
 ghost use Rattle.right_strands.specs.Pairs.{IsStill, is_over, is_waiting, frees, may_pair};
 
 use crate::laid::{LaidState, Piece};
-use crate::lists::Lists;
 use crate::run::{Run, Scene};
+use crate::spare::Spares;
 use crate::strand::RightStrand;
 use positions::start::Start;
 use std::alloc::AllocError;
@@ -16,8 +16,8 @@ use view_pool::{Kit, View};
 /// moved from the right one to the left.
 #[derive(Drop)]
 pub struct Pair<J: Run, V: View = Box<dyn View>> {
-    left: Box<RightStrand<J, V>>,
-    right: Box<RightStrand<J, V>>,
+    left: RightStrand<J, V>,
+    right: RightStrand<J, V>,
     start: Start,
 }
 
@@ -26,9 +26,9 @@ impl<J: Run, V: View> Model for Pair<J, V> {
 
     ghost Value = { PlainPair };
 
-    ghost view = { λ p. record { left = p.left.value.strand; right = p.right.value.strand } };
+    ghost view = { λ p. record { left = p.left.strand; right = p.right.strand } };
 
-    ghost invariant = { λ p. IsPairFrom J.setting p.start p.left.value.strand p.right.value.strand };
+    ghost invariant = { λ p. IsPairFrom J.setting p.start p.left.strand p.right.strand };
 }
 
 impl<J: Run, V: View> Piece<J, V> {
@@ -62,7 +62,7 @@ impl<J: Run, V: View> Piece<J, V> {
         ensures freed { result ≡ frees self.now.state left.now.strand self.now.strand }
     {
         match self.state {
-            LaidState::Stalled => self.strand.leaves_none_waiting(&*left.strand),
+            LaidState::Stalled => self.strand.leaves_none_waiting(&left.strand),
             _ => true,
         }
     }
@@ -78,20 +78,20 @@ impl<J: Run, V: View> Pair<J, V> {
     {
         let start = left.start();
         Pair {
-            left: left.into_box(),
-            right: right.into_box(),
+            left: left.into_right(),
+            right: right.into_right(),
             start,
         }
     }
 
-    /// The right strand of both, and the kit of the right one, which puts lists to those that are there. Where memory is refused the pair is
+    /// The right strand of both, and the kit of the right one, which leaves its box to those that are spare. Where memory is refused the pair is
     /// handed back, of the same two strands, but for reducers' values that have moved from the right one to the left.
     pub fn join(
         self,
         scene: &Scene<'_, J>,
-        lists: &mut Lists,
-    ) -> Result<(Box<RightStrand<J, V>>, Kit<V>), (AllocError, Pair<J, V>)>
-        ensures joined { IfOk result (λ r. r.0.value
+        spares: &mut Spares<V>,
+    ) -> Result<(RightStrand<J, V>, Kit<V>), (AllocError, Pair<J, V>)>
+        ensures joined { IfOk result (λ r. r.0
             ≡ record { strand = joined self.left self.right; failed = false }) }
         ensures kit { IfOk result (λ r. r.1 ≡ J.setting.kinds) }
         ensures one_layer { IfOk result (λ r. self.right.lower ≡ []) }
@@ -102,9 +102,10 @@ impl<J: Run, V: View> Pair<J, V> {
             mut right,
             start,
         } = self;
-        match left.join(scene, start, &mut *right) {
+        match left.join(scene, start, &mut right) {
             Ok(()) => {
-                let kit = left.let_go(Box::into_inner(right), lists);
+                let (kit, spare) = left.let_go(right);
+                spares.keep(spare);
                 Ok((left, kit))
             }
             Err(error) => Err((error, Pair { left, right, start })),

@@ -5,6 +5,7 @@ ghost use Rattle.meaning.specs.SmallStep.{same_name};
 ghost use Rattle.positions.specs.Advance.{advanced, pause_of};
 ghost use Rattle.positions.specs.Moves.{inlined, detached, attached, resumed, stolen, joined, lowest_alone, at_update};
 ghost use Rattle.positions.specs.Simulation.{IsFirst, place_of};
+ghost use Rattle.positions.specs.Tallies.{no_tally};
 ghost use Rattle.answered_loops.specs.Ways.{IsWay};
 ghost use Rattle.strand_moves.specs.Joins.{HasFault};
 ghost use Rattle.small_steps.specs.Steps.{GivesNone, HoldsFor};
@@ -13,8 +14,9 @@ ghost use Rattle.running_ahead.specs.Stepped.{IsStepped};
 ghost use Rattle.right_strands.specs.Rightness.{FitsHere, IsRightStrand, WasDetached};
 ghost use Rattle.right_strands.specs.Pairs.{IsPairFrom, IsStill};
 
-use crate::lists::Lists;
+use crate::body::Body;
 use crate::run::{Run, Scene};
+use crate::spare::Spare;
 use crate::task::RightTask;
 use frames::strand::Strand;
 use positions::phase::{Paused, Phase};
@@ -24,12 +26,11 @@ use std::alloc::{AllocError, Global};
 use std::marker::{Model, PhantomData};
 use view_pool::{Kit, KitSource, View};
 
-/// A strand that is right for the run J, unless memory was refused within one of its small steps; and where it begins.
+/// A strand that is right for the run J, unless memory was refused within one of its small steps; and where it begins. It lies in one box
+/// from its beginning to its end.
 #[derive(Drop)]
 pub struct RightStrand<J: Run, V: View = Box<dyn View>> {
-    pub(crate) strand: Strand<V>,
-    pub(crate) start: Start,
-    pub(crate) failed: bool,
+    pub(crate) body: Box<Body<V>>,
     pub(crate) of: PhantomData<J>,
 }
 
@@ -38,9 +39,9 @@ impl<J: Run, V: View> Model for RightStrand<J, V> {
 
     ghost Value = { PlainRight };
 
-    ghost view = { λ s. record { strand = s.strand; failed = s.failed } };
+    ghost view = { λ s. record { strand = s.body.value.strand; failed = s.body.value.failed } };
 
-    ghost invariant = { λ s. IsHeld J.setting s.start s.failed s.strand };
+    ghost invariant = { λ s. IsHeld J.setting s.body.value.start s.body.value.failed s.body.value.strand };
 }
 
 impl<J: Run, V: View> RightStrand<J, V> {
@@ -56,26 +57,28 @@ impl<J: Run, V: View> RightStrand<J, V> {
         ensures going { IfOk result (λ s. s.failed ≡ false) }
         ensures handed_back { IfErr result (λ e. e.1 ≡ kit) }
     {
-        match Strand::first(alloc, scene.program, kit) {
-            Ok(strand) => Ok(RightStrand {
-                strand,
-                start: Start::Root,
-                failed: false,
+        let strand = match Strand::first(alloc, scene.program, kit) {
+            Ok(strand) => strand,
+            Err(refused) => return Err(refused),
+        };
+        let start = Start::Root;
+        match Body::boxed(alloc, strand, start) {
+            Ok(body) => Ok(RightStrand {
+                body,
                 of: PhantomData,
             }),
             Err(refused) => Err(refused),
         }
     }
 
-    /// The strand of a stolen continuation, with lists of those that are there. Want of memory is the only error; it hands the continuation
-    /// and the kit back.
+    /// The strand of a stolen continuation, where another one has lain. Want of memory is the only error; it hands the continuation and the
+    /// kit back.
     #[inline(always)]
     pub fn stolen(
-        alloc: Global,
         scene: &Scene<'_, J>,
         task: RightTask<J>,
         kit: Kit<V>,
-        lists: &mut Lists,
+        spare: Spare<V>,
     ) -> Result<RightStrand<J, V>, (AllocError, RightTask<J>, Kit<V>)>
         requires kit { kit ≡ J.setting.kinds }
         ensures stolen { IfOk result (λ s. s.strand ≡ stolen J.setting.codes kit task.task) }
@@ -85,11 +88,10 @@ impl<J: Run, V: View> RightStrand<J, V> {
     {
         let RightTask { task, since, of: _ } = task;
         let start = behind(task.place());
-        match Strand::stolen(alloc, scene.program, task, kit, &mut lists.lists) {
-            Ok(strand) => Ok(RightStrand {
-                strand,
-                start,
-                failed: false,
+        let Spare { mut body } = spare;
+        match body.begin_stolen(scene.program, start, task, kit) {
+            Ok(()) => Ok(RightStrand {
+                body,
                 of: PhantomData,
             }),
             Err((error, task, kit)) => Err((
@@ -129,12 +131,13 @@ impl<J: Run, V: View> RightStrand<J, V> {
         ensures given_kinds { (k : List Kind) → K.gives k kits.new → k ≡ J.setting.kinds }
     {
         match self
+            .body
             .strand
             .advance(alloc, scene.program, scene.tables, scene.records, kits)
         {
             Ok(paused) => Ok(paused),
             Err(error) => {
-                self.failed = true;
+                self.body.failed = true;
                 Err(error)
             }
         }
@@ -149,7 +152,7 @@ impl<J: Run, V: View> RightStrand<J, V> {
         ensures lower { self.new.strand.lower ≡ self.old.strand.lower }
         ensures same { spawning.new ≡ spawning.old }
     {
-        self.strand.run_ahead(alloc, scene.program, scene.tables, scene.records, spawning);
+        self.body.strand.run_ahead(alloc, scene.program, scene.tables, scene.records, spawning);
     }
 
     /// Where the topmost instance is a loop's over a memo procedure, has records answer iterations: all those of a half that is halved
@@ -170,7 +173,7 @@ impl<J: Run, V: View> RightStrand<J, V> {
         ensures failed { OnErr result (self.new.failed ≡ true) }
         ensures lower { self.new.strand.lower ≡ self.old.strand.lower }
     {
-        match self.strand.answer_ahead(
+        match self.body.strand.answer_ahead(
             alloc,
             scene.program,
             scene.tables,
@@ -180,7 +183,7 @@ impl<J: Run, V: View> RightStrand<J, V> {
         ) {
             Ok(done) => Ok(done),
             Err(error) => {
-                self.failed = true;
+                self.body.failed = true;
                 Err(error)
             }
         }
@@ -212,7 +215,7 @@ impl<J: Run, V: View> RightStrand<J, V> {
         ensures given_kinds { (k : List Kind) → K.gives k kits.new → k ≡ J.setting.kinds }
         ensures without_kit { GivesNone K.gives kits.old → self.new.strand ≡ self.old.strand }
     {
-        match self.strand.record_ahead(
+        match self.body.strand.record_ahead(
             alloc,
             scene.program,
             scene.tables,
@@ -222,7 +225,7 @@ impl<J: Run, V: View> RightStrand<J, V> {
         ) {
             Ok(done) => Ok(done),
             Err(error) => {
-                self.failed = true;
+                self.body.failed = true;
                 Err(error)
             }
         }
@@ -232,7 +235,7 @@ impl<J: Run, V: View> RightStrand<J, V> {
     pub fn pause(&self, scene: &Scene<'_, J>) -> Paused
         ensures pause { result ≡ pause_of J.setting.codes self.now.strand }
     {
-        self.strand.pause(scene.program)
+        self.body.strand.pause(scene.program)
     }
 
     /// What the type keeps.
@@ -240,14 +243,14 @@ impl<J: Run, V: View> RightStrand<J, V> {
         ensures right { self.now.failed ≡ false → IsRightStrand J.setting self.now.strand }
         ensures kinds { self.now.strand.layer.kinds ≡ J.setting.kinds }
     {
-        let _ = &self.strand;
+        let _ = &self.body.strand;
     }
 
     /// Whether memory was refused within one of its small steps.
     pub fn has_failed(&self) -> bool
         ensures failed { result ≡ self.now.failed }
     {
-        self.failed
+        self.body.failed
     }
 
     /// At a spawn: makes the child a call.
@@ -255,7 +258,7 @@ impl<J: Run, V: View> RightStrand<J, V> {
         requires at_spawn { self.old.strand.phase ≡ Phase.AtSpawn }
         ensures called { self.new ≡ record self.old { strand = inlined self.old.strand } }
     {
-        self.strand.inline();
+        self.body.strand.inline();
     }
 
     /// At a spawn: takes out the continuation, and goes on with the child alone.
@@ -268,8 +271,8 @@ impl<J: Run, V: View> RightStrand<J, V> {
         ensures child { self.new ≡ record self.old { strand = detached self.old.strand } }
         ensures was { WasDetached J.setting result self.new.strand }
     {
-        let since = self.start;
-        let task = self.strand.detach(alloc);
+        let since = self.body.start;
+        let task = self.body.strand.detach(alloc);
         RightTask {
             task,
             since,
@@ -284,14 +287,14 @@ impl<J: Run, V: View> RightStrand<J, V> {
             ≡ record self.old { strand = attached task.task self.old.strand } }
     {
         let RightTask { task, .. } = task;
-        self.strand.attach(task);
+        self.body.strand.attach(task);
     }
 
     /// Whether the continuation is the one that waits for this strand's child; a strand that has failed fits none.
     pub fn fits(&self, task: &RightTask<J>) -> bool
         ensures fits { result ≡ true → FitsHere self.now.strand task.now }
     {
-        !self.failed && self.is_since(task) && is_same(self.strand.name(), task.place())
+        !self.body.failed && self.is_since(task) && is_same(self.body.strand.name(), task.place())
     }
 
     /// Whether the continuation was pushed by a strand that began where this one did.
@@ -299,7 +302,7 @@ impl<J: Run, V: View> RightStrand<J, V> {
         ensures since { result ≡ true → self.now.failed ≡ false
             → self.now.strand.start ≡ task.now.since }
     {
-        self.start == task.since()
+        self.body.start == task.since()
     }
 
     /// Where the spawned child has returned: goes on with the continuation that waits for it; elsewhere nothing changes.
@@ -309,7 +312,7 @@ impl<J: Run, V: View> RightStrand<J, V> {
             ≡ record self.old { strand = resumed task.task self.old.strand } }
     {
         let RightTask { task, .. } = task;
-        self.strand.resume(task);
+        self.body.strand.resume(task);
     }
 
     /// A strand with a fault: keeps its lowest layer alone, and sends the other kits home, each of them where there is room for
@@ -325,7 +328,7 @@ impl<J: Run, V: View> RightStrand<J, V> {
             → K.free kits.new ≡ length self.old.strand.lower + K.free kits.old }
         ensures total { K.total kits.new ≡ K.total kits.old }
     {
-        self.strand.close_upper(kits);
+        self.body.strand.close_upper(kits);
     }
 
     /// Puts its right neighbour behind it, where the two are a pair and it begins there; the right one is to be let go. Where memory is
@@ -340,6 +343,8 @@ impl<J: Run, V: View> RightStrand<J, V> {
         ensures joined { OnOk result (self.new
             ≡ record { strand = joined self.old.strand right.old.strand; failed = false }) }
         ensures one_layer { right.old.strand.lower ≡ [] }
+        ensures bare { OnOk result (right.new.strand.lower ≡ []) }
+        ensures uncounted { OnOk result (right.new.strand.tally ≡ no_tally) }
         ensures pair { OnErr result (IsPairFrom J.setting start self.new.strand right.new.strand) }
         ensures still { OnErr result (IsStill
             (record { left = self.old.strand; right = right.old.strand })
@@ -347,41 +352,34 @@ impl<J: Run, V: View> RightStrand<J, V> {
     {
         // The setting's records are sound: so the two are neighbours that may become one.
         scene.upheld();
-        right.failed = true;
-        match self.strand.join_there(&mut right.strand) {
-            Ok(()) => {
-                self.start = start;
-                self.failed = false;
-                Ok(())
-            }
-            Err(error) => {
-                self.failed = true;
-                Err(error)
-            }
-        }
+        self.body.join_there(start, &mut *right.body)
     }
 
-    /// The kit of a strand that is let go, of which this one keeps some lists, and others are put to those that are there.
+    /// The kit of a strand that is let go, of which this one keeps some lists, and what it leaves for another one.
     #[inline(always)]
-    pub(crate) fn let_go(&mut self, over: RightStrand<J, V>, lists: &mut Lists) -> Kit<V>
+    pub(crate) fn let_go(&mut self, over: RightStrand<J, V>) -> (Kit<V>, Spare<V>)
+        requires one_layer { over.strand.lower ≡ [] }
+        requires uncounted { over.strand.tally ≡ no_tally }
         ensures same { self.new ≡ self.old }
-        ensures kit { result ≡ J.setting.kinds }
+        ensures kit { result.0 ≡ J.setting.kinds }
     {
-        self.strand.let_go(over.into_strand(), &mut lists.lists)
+        let RightStrand { mut body, of: _ } = over;
+        let kit = self.body.strand.lay_bare(&mut body.strand);
+        (kit, Spare { body })
     }
 
     /// How many kits it has: one for each of its layers.
     pub fn kits(&self) -> usize
         ensures kits { result ≡ suc (length self.now.strand.lower) }
     {
-        self.strand.kits()
+        self.body.strand.kits()
     }
 
     /// Whether the next small step is that of an update.
     pub fn at_update(&self, scene: &Scene<'_, J>) -> bool
         ensures update { result ≡ at_update J.setting.codes self.now.strand }
     {
-        self.strand.at_update(scene.program)
+        self.body.strand.at_update(scene.program)
     }
 
     /// Whether no name of this strand would wait for a child that ends after the beginning of its left neighbour, which has ended,
@@ -389,28 +387,28 @@ impl<J: Run, V: View> RightStrand<J, V> {
     pub(crate) fn leaves_none_waiting(&self, left: &RightStrand<J, V>) -> bool
         ensures waiting { result ≡ leaves_none left.now.strand self.now.strand }
     {
-        self.strand.leaves_none_waiting(&left.strand)
+        self.body.strand.leaves_none_waiting(&left.body.strand)
     }
 
     /// What the topmost instance does next.
     pub fn phase(&self) -> Phase
         ensures phase { result ≡ self.now.strand.phase }
     {
-        self.strand.phase()
+        self.body.strand.phase()
     }
 
     /// Where the strand begins.
     pub fn start(&self) -> Start
         ensures start { self.now.failed ≡ false → result ≡ self.now.strand.start }
     {
-        self.start
+        self.body.start
     }
 
     /// The whole name of the topmost instance.
     pub fn name(&self) -> &[usize]
         ensures name { result.now ≡ self.now.strand.path }
     {
-        self.strand.name()
+        self.body.strand.name()
     }
 
     /// Whether the strand begins behind the child of that name; the first one does behind the empty name.
@@ -418,7 +416,7 @@ impl<J: Run, V: View> RightStrand<J, V> {
         ensures behind { result
             ≡ same_name (place_of self.now.strand.start self.now.strand.path) name.now }
     {
-        self.strand.is_behind(name)
+        self.body.strand.is_behind(name)
     }
 
     /// The name of the child behind which the strand begins; that of the first strand is empty. Want of memory is the only
@@ -427,7 +425,7 @@ impl<J: Run, V: View> RightStrand<J, V> {
         ensures place { IfOk result (λ place. place.items
             ≡ place_of self.now.strand.start self.now.strand.path) }
     {
-        self.strand.begins_behind(alloc)
+        self.body.strand.begins_behind(alloc)
     }
 
     /// The strand by itself.
@@ -436,7 +434,8 @@ impl<J: Run, V: View> RightStrand<J, V> {
         ensures right { self.failed ≡ false → IsRightStrand J.setting self.strand }
         ensures kinds { self.strand.layer.kinds ≡ J.setting.kinds }
     {
-        let RightStrand { strand, .. } = self;
+        let RightStrand { body, of: _ } = self;
+        let Body { strand, .. } = Box::into_inner(body);
         strand
     }
 }

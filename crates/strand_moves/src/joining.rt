@@ -7,7 +7,6 @@ ghost use Rattle.positions.specs.Moves.{joined, joined_broken, joined_ended, set
 ghost use Rattle.positions.specs.Tallies.{no_tally};
 ghost use Rattle.strand_moves.specs.Joins.{IsDone, with_worths};
 
-use crate::lists::WorkLists;
 use layers::tally::Tally;
 use positions::phase::{Fault, Phase};
 use positions::start::Start;
@@ -106,32 +105,6 @@ pub fn close<V: View>(machine: Machine<V>) -> Kit<V>
     ensures kit { result ≡ machine.layer.kinds }
 {
     machine.layer.close()
-}
-
-/// The kit of a strand with one layer that is let go. This strand keeps the lists of its topmost instance and of its name, and the layer's
-/// lists are put to the others.
-#[inline(always)]
-pub fn let_go<V: View>(machine: &mut Machine<V>, over: Machine<V>, lists: &mut WorkLists) -> Kit<V>
-    ensures same { machine.new ≡ machine.old }
-    ensures kit { result ≡ over.layer.kinds }
-{
-    let Machine {
-        start: _,
-        layer,
-        lower: _,
-        path,
-        place: _,
-        top,
-        below,
-        phase: _,
-        arguments: _,
-        tally: _,
-        numbers: _,
-        spares: _,
-        lists: _,
-    } = over;
-    machine.spares.keep_child(top, below, path);
-    layer.close_in(&mut lists.lists)
 }
 
 /// Puts the right neighbour behind this strand, which takes what it goes on with; the rest is to be let go. Where memory is refused

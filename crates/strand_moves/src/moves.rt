@@ -1,9 +1,9 @@
 //! Strands that begin, and what is taken out of a strand and put back.
-ghost use Rattle.std.specs.Prelude.{◌≡◌, ◌∷◌, [], IfOk, IfErr};
+ghost use Rattle.std.specs.Prelude.{◌≡◌, ◌∷◌, [], IfOk, IfErr, OnOk, OnErr};
 ghost use Rattle.evaluation.specs.Slots.{slots_for};
 ghost use Rattle.positions.specs.Moves.{first_strand, stolen, stolen_with, inlined, detached, attached, returned_of, resumed, at_update};
+ghost use Rattle.strand_moves.specs.Bare.{IsBare};
 
-use crate::lists::WorkLists;
 use crate::task::Task;
 use activations::spares::Spares;
 use evaluation::slot::Slot;
@@ -67,30 +67,35 @@ pub fn first<V: View>(
     })
 }
 
-/// The strand of a stolen continuation, whose layer keeps readings where a memo instance may be around it, and lies in lists of those that
-/// are there; refused for want of memory alone, and then the continuation and the kit are handed back.
+/// In a strand that holds nothing that of a stolen continuation begins, whose layer keeps readings where a memo instance may be around it, and
+/// goes on with the lists that lie there; refused for want of memory alone, and then the continuation and the kit are handed back.
 #[inline(always)]
-pub fn stolen<V: View>(
-    alloc: Global,
+pub fn begin_stolen<V: View>(
+    machine: &mut Machine<V>,
     program: &Checked,
     task: Task,
     kit: Kit<V>,
-    lists: &mut WorkLists,
-) -> Result<Machine<V>, (AllocError, Task, Kit<V>)>
-    ensures stolen { IfOk result (λ machine. machine ≡ stolen program.now.codes kit task) }
+) -> Result<(), (AllocError, Task, Kit<V>)>
+    requires bare { IsBare machine.old }
+    ensures stolen { OnOk result (machine.new ≡ stolen program.now.codes kit task) }
+    ensures bare { OnErr result (IsBare machine.new) }
     ensures task_back { IfErr result (λ e. e.1 ≡ task) }
     ensures kit_back { IfErr result (λ e. e.2 ≡ kit) }
 {
-    let layer = match thief_layer(alloc, program, kit, &mut lists.lists) {
+    let alloc = *machine.path.allocator();
+    let layer = match thief_layer(alloc, program, kit, &mut machine.lists) {
         Ok(layer) => layer,
         Err((error, kit)) => return Err((error, task, kit)),
     };
-    Ok(behind(alloc, task, layer))
+    begin_behind(machine, task, layer);
+    Ok(())
 }
 
-/// The strand of a continuation with that layer.
-fn behind<V: View>(alloc: Global, task: Task, layer: Layer<V>) -> Machine<V>
-    ensures stolen { result ≡ stolen_with layer task }
+/// In a strand that holds nothing that of a continuation begins, with that layer.
+#[inline(always)]
+fn begin_behind<V: View>(machine: &mut Machine<V>, task: Task, layer: Layer<V>)
+    requires bare { IsBare machine.old }
+    ensures stolen { machine.new ≡ stolen_with layer task }
 {
     let Task {
         mut place,
@@ -98,26 +103,16 @@ fn behind<V: View>(alloc: Global, task: Task, layer: Layer<V>) -> Machine<V>
         below,
     } = task;
     let _ = place.pop();
-    let start = Start::Behind {
+    machine.start = Start::Behind {
         depth: place.len(),
         child: top.children(),
     };
     top.mark();
-    Machine {
-        start,
-        layer,
-        lower: Vec::new(alloc),
-        path: place,
-        place: Vec::new(alloc),
-        top,
-        below,
-        phase: Phase::Running,
-        arguments: Vec::new(alloc),
-        tally: Tally::new(alloc),
-        numbers: Vec::new(alloc),
-        spares: Spares::new(alloc),
-        lists: SpareLists::new(alloc),
-    }
+    machine.layer = layer;
+    machine.path = place;
+    machine.top = top;
+    machine.below = below;
+    machine.phase = Phase::Running;
 }
 
 /// At a spawn: takes out the parent and what waits below it, and leaves the child alone, which is to be entered.

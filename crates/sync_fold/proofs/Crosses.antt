@@ -2,11 +2,9 @@
 use denote.RattleType.{RattleType}
 use denote.Param.Send.{IsSend, sendable}
 use Rattle.std.proofs.Crossing.{crosses}
-use Rattle.activations.proofs.Crosses.{spares_send}
-use Rattle.layers.proofs.Crosses.{lists_send}
 use Rattle.view_pool.specs.declared.view.View as View
 use Rattle.right_strands.specs.declared.run.Run as Run
-use Rattle.right_strands.proofs.Crosses.{piece_send, pair_send}
+use Rattle.right_strands.proofs.Crosses.{piece_send, pair_send, spares_send}
 use Rattle.sync_fold.specs.contracts.book.Book as Book
 
 module _ (J V : RattleType) (run : Run.Ghosts J.Denot) (view : View.Ghosts V.Denot) (j : IsSend J) (v : IsSend V) where
@@ -14,6 +12,5 @@ module _ (J V : RattleType) (run : Run.Ghosts J.Denot) (view : View.Ghosts V.Den
   book_send =
       let one = piece_send J V run view j v in
       let two = pair_send J V run view j v in
-      let spares = spares_send in
-      let lists = lists_send in
+      let spares = spares_send V view v in
       search (sendable, crosses) depth 40 fits 4000

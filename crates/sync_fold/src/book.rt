@@ -7,9 +7,9 @@ use instance_records::record::Record;
 use numbered_runs::step::{BookStep, Place, StrandLine};
 use positions::answer::RunAnswer;
 use right_strands::laid::Piece;
-use right_strands::lists::Lists;
 use right_strands::pair::Pair;
 use right_strands::run::{Run, Scene};
+use right_strands::spare::Spares;
 use right_strands::strand::RightStrand;
 use right_strands::task::RightTask;
 use std::alloc::{AllocError, Global};
@@ -20,12 +20,12 @@ use strand_list::lines::held_place;
 use view_pool::{Kit, KitSource, View};
 
 /// The strands of the run J, the steps that made their list, and the strands that were laid down, one a line in the lines' order.
-/// The history is legal, and its replay is the list that stands. Lists of strands that were folded are kept for those that are stolen.
+/// The history is legal, and its replay is the list that stands. What strands leave that are folded is kept for those that are stolen.
 #[derive(Drop)]
 pub struct Book<J: Run, V: View = Box<dyn View>> {
     chronicle: Chronicle,
     laid: Vec<Laid<Piece<J, V>, Pair<J, V>>>,
-    lists: Lists,
+    spares: Spares<V>,
 }
 
 impl<J: Run, V: View> Model for Book<J, V> {
@@ -69,7 +69,7 @@ impl<J: Run, V: View> Book<J, V> {
         Ok(Book {
             chronicle: Chronicle::start(alloc)?,
             laid,
-            lists: Lists::new(alloc),
+            spares: Spares::new(alloc),
         })
     }
 
@@ -225,8 +225,8 @@ impl<J: Run, V: View> Book<J, V> {
         }
     }
 
-    /// The strand of a stolen continuation, with lists of strands that were folded. Want of memory is the only error; it hands the
-    /// continuation and the kit back.
+    /// The strand of a stolen continuation, where one has lain that was folded. Want of memory is the only error; it hands the continuation
+    /// and the kit back.
     #[inline(always)]
     pub fn begin_stolen(
         &mut self,
@@ -242,7 +242,10 @@ impl<J: Run, V: View> Book<J, V> {
         ensures task_back { IfErr result (λ e. e.1 ≡ task) }
         ensures kit_back { IfErr result (λ e. e.2 ≡ kit) }
     {
-        RightStrand::stolen(alloc, scene, task, kit, &mut self.lists)
+        match self.spares.take(alloc) {
+            Ok(spare) => RightStrand::stolen(scene, task, kit, spare),
+            Err(error) => Err((error, task, kit)),
+        }
     }
 
     /// The strand that a worker holds is laid down; it is handed back with a refusal.
@@ -327,14 +330,14 @@ impl<J: Run, V: View> Book<J, V> {
         left: Place,
         right: Place,
         worker: usize,
-    ) -> Result<(Box<RightStrand<J, V>>, Kit<V>), Refusal>
+    ) -> Result<(RightStrand<J, V>, Kit<V>), Refusal>
         ensures taken { OnOk result
             (Took self.old.chronicle (Fold left.items right.items worker) self.new.chronicle) }
         ensures joined { IfOk result
-            (λ r. BecomeOne self.old left.items r.0.value.strand) }
-        ensures going { IfOk result (λ r. r.0.value.failed ≡ false) }
+            (λ r. BecomeOne self.old left.items r.0.strand) }
+        ensures going { IfOk result (λ r. r.0.failed ≡ false) }
         ensures kit { IfOk result (λ r. r.1 ≡ J.setting.kinds) }
-        ensures counted { IfOk result (λ r. TakesUp r.0.value.strand self.old.laid self.new.laid) }
+        ensures counted { IfOk result (λ r. TakesUp r.0.strand self.old.laid self.new.laid) }
         ensures refused { IfErr result
             (IsRefusedBy (fold_refusal self.old left.items right.items worker)) }
         ensures same { OnErr result (self.new.chronicle ≡ self.old.chronicle) }
@@ -356,14 +359,14 @@ impl<J: Run, V: View> Book<J, V> {
         left: Place,
         right: Place,
         worker: usize,
-    ) -> Result<(Box<RightStrand<J, V>>, Kit<V>), BookError>
+    ) -> Result<(RightStrand<J, V>, Kit<V>), BookError>
         ensures taken { OnOk result
             (Took self.old.chronicle (Fold left.items right.items worker) self.new.chronicle) }
         ensures joined { IfOk result
-            (λ r. BecomeOne self.old left.items r.0.value.strand) }
-        ensures going { IfOk result (λ r. r.0.value.failed ≡ false) }
+            (λ r. BecomeOne self.old left.items r.0.strand) }
+        ensures going { IfOk result (λ r. r.0.failed ≡ false) }
         ensures kit { IfOk result (λ r. r.1 ≡ J.setting.kinds) }
-        ensures counted { IfOk result (λ r. TakesUp r.0.value.strand self.old.laid self.new.laid) }
+        ensures counted { IfOk result (λ r. TakesUp r.0.strand self.old.laid self.new.laid) }
         ensures refused { IfErr result
             (IsRefusedBy (fold_refusal self.old left.items right.items worker)) }
         ensures same { OnErr result (self.new.chronicle ≡ self.old.chronicle) }
@@ -386,15 +389,15 @@ impl<J: Run, V: View> Book<J, V> {
         left: Place,
         right: Place,
         worker: usize,
-    ) -> Result<(Box<RightStrand<J, V>>, Kit<V>), BookError>
+    ) -> Result<(RightStrand<J, V>, Kit<V>), BookError>
         requires touch { touch self.old left.items right.items ≡ true }
         ensures taken { OnOk result
             (Took self.old.chronicle (Fold left.items right.items worker) self.new.chronicle) }
         ensures joined { IfOk result
-            (λ r. BecomeOne self.old left.items r.0.value.strand) }
-        ensures going { IfOk result (λ r. r.0.value.failed ≡ false) }
+            (λ r. BecomeOne self.old left.items r.0.strand) }
+        ensures going { IfOk result (λ r. r.0.failed ≡ false) }
         ensures kit { IfOk result (λ r. r.1 ≡ J.setting.kinds) }
-        ensures counted { IfOk result (λ r. TakesUp r.0.value.strand self.old.laid self.new.laid) }
+        ensures counted { IfOk result (λ r. TakesUp r.0.strand self.old.laid self.new.laid) }
         ensures refused { IfErr result
             (IsRefusedBy (unless_allowed (stepped self.old.chronicle.page (Fold left.items right.items worker)))) }
         ensures same { OnErr result (self.new.chronicle ≡ self.old.chronicle) }
@@ -409,7 +412,7 @@ impl<J: Run, V: View> Book<J, V> {
             Ok(step) => step,
             Err(error) => return Err(error),
         };
-        match fold_kept(scene, &mut self.laid, k, &mut self.lists) {
+        match fold_kept(scene, &mut self.laid, k, &mut self.spares) {
             Ok(joined) => {
                 self.chronicle.fold(step);
                 Ok(joined)
@@ -427,14 +430,14 @@ impl<J: Run, V: View> Book<J, V> {
         alloc: Global,
         scene: &Scene<'_, J>,
         worker: usize,
-    ) -> Option<Result<(Box<RightStrand<J, V>>, Kit<V>), Refusal>>
+    ) -> Option<Result<(RightStrand<J, V>, Kit<V>), Refusal>>
         ensures folded { FoldsAny self.old worker result self.new }
-        ensures joined { IfSome result (λ r. IfOk r (λ s. FirstBecome self.old s.0.value.strand)) }
+        ensures joined { IfSome result (λ r. IfOk r (λ s. FirstBecome self.old s.0.strand)) }
         ensures kept { IfSome result (λ r. IfErr r (λ e. FirstStay self.old e self.new)) }
-        ensures going { IfSome result (λ r. IfOk r (λ s. s.0.value.failed ≡ false)) }
+        ensures going { IfSome result (λ r. IfOk r (λ s. s.0.failed ≡ false)) }
         ensures kit { IfSome result (λ r. IfOk r (λ s. s.1 ≡ J.setting.kinds)) }
         ensures counted { IfSome result
-            (λ r. IfOk r (λ s. TakesUp s.0.value.strand self.old.laid self.new.laid)) }
+            (λ r. IfOk r (λ s. TakesUp s.0.strand self.old.laid self.new.laid)) }
         ensures none { IfNone result (self.new ≡ self.old) }
         ensures near { IfSome result (λ r. IfErr r (λ e. is_apart e ≡ false)) }
         ensures same { IfSome result (λ r. OnErr r (self.new.chronicle ≡ self.old.chronicle)) }
@@ -452,14 +455,14 @@ impl<J: Run, V: View> Book<J, V> {
         scene: &Scene<'_, J>,
         k: usize,
         worker: usize,
-    ) -> Result<(Box<RightStrand<J, V>>, Kit<V>), Refusal>
+    ) -> Result<(RightStrand<J, V>, Kit<V>), Refusal>
         requires first { PlacesAt k self.old.chronicle.page.lines (first_fold self.old) }
         ensures folded { FoldsFirst self.old worker result self.new }
-        ensures joined { IfOk result (λ r. FirstBecome self.old r.0.value.strand) }
+        ensures joined { IfOk result (λ r. FirstBecome self.old r.0.strand) }
         ensures kept { IfErr result (λ e. FirstStay self.old e self.new) }
-        ensures going { IfOk result (λ r. r.0.value.failed ≡ false) }
+        ensures going { IfOk result (λ r. r.0.failed ≡ false) }
         ensures kit { IfOk result (λ r. r.1 ≡ J.setting.kinds) }
-        ensures counted { IfOk result (λ r. TakesUp r.0.value.strand self.old.laid self.new.laid) }
+        ensures counted { IfOk result (λ r. TakesUp r.0.strand self.old.laid self.new.laid) }
         ensures near { IfErr result (λ e. is_apart e ≡ false) }
         ensures same { OnErr result (self.new.chronicle ≡ self.old.chronicle) }
     {
@@ -479,15 +482,15 @@ impl<J: Run, V: View> Book<J, V> {
         left: Place,
         right: Place,
         worker: usize,
-    ) -> Result<(Box<RightStrand<J, V>>, Kit<V>), Refusal>
+    ) -> Result<(RightStrand<J, V>, Kit<V>), Refusal>
         requires touch { touch self.old left.items right.items ≡ true }
         ensures taken { OnOk result
             (Took self.old.chronicle (Fold left.items right.items worker) self.new.chronicle) }
         ensures joined { IfOk result
-            (λ r. BecomeOne self.old left.items r.0.value.strand) }
-        ensures going { IfOk result (λ r. r.0.value.failed ≡ false) }
+            (λ r. BecomeOne self.old left.items r.0.strand) }
+        ensures going { IfOk result (λ r. r.0.failed ≡ false) }
         ensures kit { IfOk result (λ r. r.1 ≡ J.setting.kinds) }
-        ensures counted { IfOk result (λ r. TakesUp r.0.value.strand self.old.laid self.new.laid) }
+        ensures counted { IfOk result (λ r. TakesUp r.0.strand self.old.laid self.new.laid) }
         ensures refused { IfErr result
             (IsRefusedBy (fold_refusal self.old left.items right.items worker)) }
         ensures same { OnErr result (self.new.chronicle ≡ self.old.chronicle) }

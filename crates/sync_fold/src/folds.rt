@@ -7,8 +7,8 @@ ghost use Rattle.sync_fold.specs.Books.{BeginAsOne, BeginWithPair, IsHalved, Pla
 use crate::kept::{keep_pair, take_behind, take_two};
 use crate::laid::{LaidOf, join_up, may_touch};
 use numbered_runs::step::{Place, StrandLine};
-use right_strands::lists::Lists;
 use right_strands::run::{Run, Scene};
+use right_strands::spare::Spares;
 use right_strands::strand::RightStrand;
 use std::alloc::{AllocError, Global};
 use strand_list::lines::{is_done, is_waiting};
@@ -60,19 +60,19 @@ pub(crate) fn fold_kept<J: Run, V: View>(
     scene: &Scene<'_, J>,
     laid: &mut Vec<LaidOf<J, V>>,
     k: usize,
-    lists: &mut Lists,
-) -> Result<(Box<RightStrand<J, V>>, Kit<V>), AllocError>
+    spares: &mut Spares<V>,
+) -> Result<(RightStrand<J, V>, Kit<V>), AllocError>
     requires within { k + 1 < length laid.old.items }
     requires pair { BeginWithPair (drop k laid.old.items) }
-    ensures joined { IfOk result (λ r. BeginAsOne (drop k laid.old.items) r.0.value.strand) }
-    ensures going { IfOk result (λ r. r.0.value.failed ≡ false) }
+    ensures joined { IfOk result (λ r. BeginAsOne (drop k laid.old.items) r.0.strand) }
+    ensures going { IfOk result (λ r. r.0.failed ≡ false) }
     ensures kit { IfOk result (λ r. r.1 ≡ J.setting.kinds) }
     ensures folded { OnOk result (laid.new.items ≡ folded k laid.old.items) }
-    ensures counted { IfOk result (λ r. TakesUp r.0.value.strand laid.old.items laid.new.items) }
+    ensures counted { IfOk result (λ r. TakesUp r.0.strand laid.old.items laid.new.items) }
     ensures halved { OnErr result (IsHalved k laid.old.items laid.new.items) }
 {
     let (left, right) = take_two(laid, k);
-    match join_up(scene, left, right, lists) {
+    match join_up(scene, left, right, spares) {
         Ok(joined) => {
             take_behind(laid, k);
             Ok(joined)

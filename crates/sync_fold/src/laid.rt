@@ -5,9 +5,9 @@ ghost use Rattle.sync_fold.specs.Counts.{HaveOneMore};
 ghost use Rattle.sync_fold.specs.declared.laid.Laid.TheVariants.{Whole};
 
 use right_strands::laid::{LaidState, Piece};
-use right_strands::lists::Lists;
 use right_strands::pair::Pair;
 use right_strands::run::{Run, Scene};
+use right_strands::spare::Spares;
 use right_strands::strand::RightStrand;
 use view_pool::{Kit, View};
 
@@ -145,25 +145,25 @@ fn pair_up<J: Run, V: View>(
     }
 }
 
-/// The strand of two neighbours that may become one, and the kit of the right one, which puts lists to those that are there; for want of
+/// The strand of two neighbours that may become one, and the kit of the right one, which leaves its box to those that are spare; for want of
 /// memory both are a pair from then on, laid down as before.
 pub(crate) fn join_up<J: Run, V: View>(
     scene: &Scene<'_, J>,
     left: LaidOf<J, V>,
     right: LaidOf<J, V>,
-    lists: &mut Lists,
-) -> Result<(Box<RightStrand<J, V>>, Kit<V>), (Pair<J, V>, LaidState, LaidState)>
+    spares: &mut Spares<V>,
+) -> Result<(RightStrand<J, V>, Kit<V>), (Pair<J, V>, LaidState, LaidState)>
     requires pair { ArePair left right }
-    ensures joined { IfOk result (λ r. AreOne left right r.0.value.strand) }
-    ensures going { IfOk result (λ r. r.0.value.failed ≡ false) }
+    ensures joined { IfOk result (λ r. AreOne left right r.0.strand) }
+    ensures going { IfOk result (λ r. r.0.failed ≡ false) }
     ensures kit { IfOk result (λ r. r.1 ≡ J.setting.kinds) }
-    ensures counted { IfOk result (λ r. HaveOneMore left right r.0.value.strand) }
+    ensures counted { IfOk result (λ r. HaveOneMore left right r.0.strand) }
     ensures made { IfErr result (λ e. IsMadeOf left right e.0) }
     ensures over { IfErr result (λ e. LiesAs left e.1) }
     ensures waiting { IfErr result (λ e. LiesAs right e.2) }
 {
     let (pair, over, waiting) = pair_up(left, right);
-    match pair.join(scene, lists) {
+    match pair.join(scene, spares) {
         Ok(joined) => Ok(joined),
         Err((_, pair)) => Err((pair, over, waiting)),
     }

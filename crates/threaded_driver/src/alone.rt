@@ -69,7 +69,7 @@ impl<J: Run + Ledger + Stocked + Send, D: Deques, V: View> Floor<'_, J, D, V> {
         let (mut strand, share) = held.into_parts();
         let mut supply = Supply::new(rt, &self.desk, share, strand.kits());
         self.is_alone.store(true, Ordering::Relaxed);
-        let goes_on = self.go_on(rt, number, seat, &mut *strand, &mut supply, gate);
+        let goes_on = self.go_on(rt, number, seat, &mut strand, &mut supply, gate);
         self.is_alone.store(false, Ordering::Relaxed);
         if goes_on {
             let (share, _) = supply.end();

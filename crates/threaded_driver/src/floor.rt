@@ -35,7 +35,6 @@ use positions::answer::RunAnswer;
 use positions::phase::{Paused, Phase};
 use rerun_records::records::Records;
 use right_strands::laid::Piece;
-use right_strands::lists::Lists;
 use right_strands::run::{Run, Scene};
 use right_strands::strand::RightStrand;
 use right_strands::task::RightTask;
@@ -153,28 +152,25 @@ impl<J: Run + Ledger + Stocked + Send, D: Deques, V: View> Floor<'_, J, D, V> {
         found
     }
 
-    /// Goes on with a strand until there is nothing more to do with it, and lays it down. Its lists stay with the worker.
+    /// Goes on with a strand until there is nothing more to do with it, and lays it down.
     pub(crate) fn run_strand<R: Wait, G: Gate>(
         &self,
         rt: &R,
         number: usize,
         seat: &mut Seat<J, D>,
         held: Held<J, V>,
-        lists: &mut Lists,
         gate: &G,
     )
         requires bound { IsBoundTo seat.old.here (spot_of held.strand) }
         ensures fresh { seat.new.here ≡ None }
     {
         let (mut strand, share) = held.into_parts();
-        strand.take_lists(lists);
         let mut supply = Supply::new(rt, &self.desk, share, strand.kits());
         for _ in rt.forever() {
-            if !self.step(rt, number, seat, &mut *strand, &mut supply, gate) {
+            if !self.step(rt, number, seat, &mut strand, &mut supply, gate) {
                 break;
             }
         }
-        strand.leave_lists(lists);
         self.lay(rt, number, seat, strand, supply, gate);
     }
 
@@ -443,11 +439,11 @@ impl<J: Run + Ledger + Stocked + Send, D: Deques, V: View> Floor<'_, J, D, V> {
         rt: &R,
         number: usize,
         seat: &mut Seat<J, D>,
-        strand: Box<RightStrand<J, V>>,
+        strand: RightStrand<J, V>,
         supply: Supply<'_, Desk<J, D, V>, Kit<V>, KitsOf<J>, R>,
         gate: &G,
     )
-        requires kits { kits_of strand.value.strand + supply.free ≡ most }
+        requires kits { kits_of strand.strand + supply.free ≡ most }
         ensures drained { seat.new.here ≡ None }
     {
         self.drain(rt, seat);

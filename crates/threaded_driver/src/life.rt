@@ -6,7 +6,6 @@ ghost use Rattle.threaded_driver.specs.Finds.{is_left, IsAt};
 use crate::floor::Floor;
 use crate::found::Found;
 use crate::gate::Gate;
-use right_strands::lists::Lists;
 use right_strands::run::Run;
 use std::sync::Wait;
 use std::sync::ledger::Ledger;
@@ -55,25 +54,22 @@ where
     ensures left { 0 < result.left }
 {
     let mut seat = seat;
-    let lists = match found {
+    match found {
         Found::Left => return seat,
-        Found::Nothing => Lists::new(floor.alloc),
+        Found::Nothing => {}
         Found::Own(held) | Found::Folded(held) | Found::Stolen(held) => {
-            let mut lists = Lists::new(floor.alloc);
-            floor.run_strand(rt, number, &mut seat, held, &mut lists, gate);
-            lists
+            floor.run_strand(rt, number, &mut seat, held, gate);
         }
-    };
-    seek(rt, floor, number, seat, lists, gate)
+    }
+    seek(rt, floor, number, seat, gate)
 }
 
-/// The life of a worker without a strand, which has these lists for the next one.
+/// The life of a worker without a strand.
 fn seek<J, D, V, R, G>(
     rt: &R,
     floor: &Floor<'_, J, D, V>,
     number: usize,
     seat: Seat<J, D>,
-    lists: Lists,
     gate: &G,
 ) -> Seat<J, D>
 where
@@ -86,7 +82,6 @@ where
     ensures left { 0 < result.left }
 {
     let mut seat = seat;
-    let mut lists = lists;
     let listener = floor.bell().listener();
     listener.listen();
     for _ in rt.forever() {
@@ -96,16 +91,9 @@ where
                 return seat;
             }
             Found::Nothing => listener.wait(rt),
-            Found::Own(held) | Found::Folded(held) => {
+            Found::Own(held) | Found::Folded(held) | Found::Stolen(held) => {
                 listener.leave();
-                lists.serve(false);
-                floor.run_strand(rt, number, &mut seat, held, &mut lists, gate);
-                listener.listen();
-            }
-            Found::Stolen(held) => {
-                listener.leave();
-                lists.serve(true);
-                floor.run_strand(rt, number, &mut seat, held, &mut lists, gate);
+                floor.run_strand(rt, number, &mut seat, held, gate);
                 listener.listen();
             }
         }

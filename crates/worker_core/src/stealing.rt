@@ -18,7 +18,6 @@ use numbered_runs::step::{BookStep, Place};
 use plain_rules::waiting::{has_some, take_oldest};
 use std::alloc::{AllocError, Global};
 use strand_list::kits::give_back;
-use strand_moves::lists::WorkLists;
 use strand_moves::task::Task;
 use view_pool::{Kit, View};
 
@@ -66,8 +65,7 @@ impl<V: View> Piece<V> {
             self.deque.push_front_reserved(task);
             return Err(kit);
         };
-        let mut lists = WorkLists::new(alloc);
-        match Strand::stolen(alloc, program, task, kit, &mut lists) {
+        match Strand::stolen(alloc, program, task, kit) {
             Ok(strand) => Ok((place, Piece::held(alloc, strand, thief))),
             Err((_, task, kit)) => {
                 self.deque.push_front_reserved(task);

@@ -75,18 +75,14 @@ fn first_strand<J: Run, V: View>(
     alloc: Global,
     scene: &Scene<'_, J>,
     kit: Kit<V>,
-) -> Result<Box<RightStrand<J, V>>, Kit<V>>
+) -> Result<RightStrand<J, V>, Kit<V>>
     requires kind { kit ≡ J.setting.kinds }
-    ensures one_layer { IfOk result (λ s. s.value.strand.lower ≡ []) }
+    ensures one_layer { IfOk result (λ s. s.strand.lower ≡ []) }
     ensures handed_back { IfErr result (λ k. k ≡ kit) }
 {
-    let strand = match RightStrand::first(alloc, scene, kit) {
-        Ok(strand) => strand,
-        Err((_, kit)) => return Err(kit),
-    };
-    match Box::new(alloc, strand) {
+    match RightStrand::first(alloc, scene, kit) {
         Ok(strand) => Ok(strand),
-        Err(refused) => Err(refused.value.into_strand().close()),
+        Err((_, kit)) => Err(kit),
     }
 }
 
@@ -95,13 +91,13 @@ pub fn first_of<J: Run, V: View>(
     alloc: Global,
     scene: &Scene<'_, J>,
     pool: Pool<Kit<V>>,
-) -> Result<(Box<RightStrand<J, V>>, Pool<Kit<V>>), (StartError, Pool<Kit<V>>)>
+) -> Result<(RightStrand<J, V>, Pool<Kit<V>>), (StartError, Pool<Kit<V>>)>
     requires kits { All (λ k. k ≡ J.setting.kinds) pool.kits }
     ensures kits { IfOk result (λ r. All (λ k. k ≡ J.setting.kinds) r.1.kits) }
     ensures total { IfOk result (λ r. r.1.total ≡ pool.total) }
     ensures some { IfOk result (λ r. 0 < length pool.kits) }
     ensures taken { IfOk result (λ r. suc (length r.1.kits) ≡ length pool.kits) }
-    ensures one_layer { IfOk result (λ r. r.0.value.strand.lower ≡ []) }
+    ensures one_layer { IfOk result (λ r. r.0.strand.lower ≡ []) }
     ensures room { IfOk result (λ r. length pool.kits ≤ pool.total) }
     ensures refused { IfErr result (λ e. CannotStart pool e.0) }
     ensures handed_back { IfErr result (λ e. e.1 ≡ pool) }

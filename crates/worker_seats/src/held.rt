@@ -12,7 +12,7 @@ use view_pool::View;
 /// A strand that a worker holds, and its share of the count of kits. Contracts see the strand.
 #[derive(Drop)]
 pub struct Held<J: Run + Stocked, V: View> {
-    strand: Box<RightStrand<J, V>>,
+    strand: RightStrand<J, V>,
     share: Share<KitsOf<J>>,
 }
 
@@ -23,24 +23,24 @@ impl<J: Run + Stocked, V: View> Model for Held<J, V> {
 
     ghost Value = { PlainRight };
 
-    ghost view = { λ h. h.strand.value };
+    ghost view = { λ h. h.strand };
 
-    ghost invariant = { λ h. (h.share.parts ≡ 1) × (h.share.amount ≡ kits_of h.strand.value.strand) };
+    ghost invariant = { λ h. (h.share.parts ≡ 1) × (h.share.amount ≡ kits_of h.strand.strand) };
 }
 
 impl<J: Run + Stocked, V: View> Held<J, V> {
     /// A strand with that share.
-    pub fn new(strand: Box<RightStrand<J, V>>, share: Share<KitsOf<J>>) -> Held<J, V>
+    pub fn new(strand: RightStrand<J, V>, share: Share<KitsOf<J>>) -> Held<J, V>
         requires one { share.parts ≡ 1 }
-        requires counted { share.amount ≡ kits_of strand.value.strand }
-        ensures strand { result ≡ strand.value }
+        requires counted { share.amount ≡ kits_of strand.strand }
+        ensures strand { result ≡ strand }
     {
         Held { strand, share }
     }
 
     /// The strand and its share.
-    pub fn into_parts(self) -> (Box<RightStrand<J, V>>, Share<KitsOf<J>>)
-        ensures strand { result.0.value ≡ self }
+    pub fn into_parts(self) -> (RightStrand<J, V>, Share<KitsOf<J>>)
+        ensures strand { result.0 ≡ self }
         ensures one { result.1.parts ≡ 1 }
         ensures counted { result.1.amount ≡ kits_of self.strand }
     {

@@ -122,9 +122,9 @@ impl<J: Run + Stocked + Send, V: View> Table<J, V> {
     }
 
     /// A worker holds a strand that two have become, and the kit of the right one is free.
-    fn take_up(&mut self, strand: Box<RightStrand<J, V>>, kit: Kit<V>) -> Held<J, V>
+    fn take_up(&mut self, strand: RightStrand<J, V>, kit: Kit<V>) -> Held<J, V>
         requires kind { kit ≡ J.setting.kinds }
-        requires lacks { Lacks strand.value.strand (record self.old.depot { free = suc self.old.depot.free }) self.old.book.laid }
+        requires lacks { Lacks strand.strand (record self.old.depot { free = suc self.old.depot.free }) self.old.book.laid }
         ensures balanced { Balances self.new.depot self.new.book.laid }
     {
         // There is room for each kit of the run.
@@ -133,8 +133,8 @@ impl<J: Run + Stocked + Send, V: View> Table<J, V> {
     }
 
     /// A worker holds a strand, as the list says already.
-    fn hold(&mut self, strand: Box<RightStrand<J, V>>) -> Held<J, V>
-        requires lacks { Lacks strand.value.strand self.old.depot self.old.book.laid }
+    fn hold(&mut self, strand: RightStrand<J, V>) -> Held<J, V>
+        requires lacks { Lacks strand.strand self.old.depot self.old.book.laid }
         ensures balanced { Balances self.new.depot self.new.book.laid }
     {
         self.book.counted();
@@ -220,10 +220,7 @@ impl<J: Run + Stocked + Send, V: View> Table<J, V> {
         ensures near { IfErr result (λ f. is_far f ≡ false) }
     {
         match self.book.begin_stolen(alloc, scene, task, kit) {
-            Ok(strand) => match Box::new(alloc, strand) {
-                Ok(strand) => Ok(Some(self.hold(strand))),
-                Err(_) => Err(Failure::NoMemory),
-            },
+            Ok(strand) => Ok(Some(self.hold(strand))),
             Err((_, _, kit)) => {
                 let _ = self.depot.put(kit);
                 Err(Failure::NoMemory)

@@ -11,7 +11,6 @@ use positions::phase::{Paused, Phase};
 use rerun_records::records::Records;
 use std::alloc::Global;
 use std::process::Abort;
-use strand_moves::lists::WorkLists;
 use test_kit::beginnings::{checked, kits, tables};
 use test_kit::texts::SALES;
 use view_pool::{Kit, PlainView, Pool};
@@ -55,8 +54,7 @@ fn steal(
 {
     let task = parent(rt, alloc, victim);
     let kit = taken(rt, program, pool);
-    let mut lists = WorkLists::new(alloc);
-    match Strand::stolen(alloc, program, task, kit, &mut lists) {
+    match Strand::stolen(alloc, program, task, kit) {
         Ok(thief) => thief,
         Err(_) => panic!(rt; "memory"),
     }

@@ -11,13 +11,13 @@ join_up-requires-clause-pair g c κs h =
 
 pub returns-in-Ok : goal.returns-in-Ok
 returns-in-Ok g c = record {
-  joined = subst (λ ds. BeginAsOne ds c.in-Ok.joined.0.value.strand)
+  joined = subst (λ ds. BeginAsOne ds c.in-Ok.joined.0.strand)
       (sym (two_taken c.args.k c.args.laid.now.items c.take_two-left.result.0 c.take_two-left.result.1 c.requires.within c.take_two-left.ensures.left c.take_two-left.ensures.right)) c.in-Ok.ensures.joined;
   going = c.in-Ok.ensures.going;
   kit = c.in-Ok.ensures.kit;
   folded = c.take_behind.ensures.taken ∙ folded_taken c.args.k c.args.laid.now.items c.take_two-left.new.laid.items c.take_two-left.ensures.none;
-  counted = fold_counts c.args.k c.args.laid.now.items c.take_behind.new.laid.items c.in-Ok.joined.0.value.strand c.requires.pair
-      (subst (λ ds. BeginWithOneMore ds c.in-Ok.joined.0.value.strand)
+  counted = fold_counts c.args.k c.args.laid.now.items c.take_behind.new.laid.items c.in-Ok.joined.0.strand c.requires.pair
+      (subst (λ ds. BeginWithOneMore ds c.in-Ok.joined.0.strand)
       (sym (two_taken c.args.k c.args.laid.now.items c.take_two-left.result.0 c.take_two-left.result.1 c.requires.within c.take_two-left.ensures.left c.take_two-left.ensures.right)) c.in-Ok.ensures.counted)
       (c.take_behind.ensures.taken ∙ folded_taken c.args.k c.args.laid.now.items c.take_two-left.new.laid.items c.take_two-left.ensures.none);
   halved = tt;

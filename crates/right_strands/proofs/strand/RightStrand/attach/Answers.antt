@@ -1,8 +1,15 @@
-use Rattle.std.proofs.Common.{ap}
+use Rattle.std.proofs.Common.{ap, rules, ◌≡◌}
 use Rattle.right_strands.specs.Rightness.{PlainRight}
 use Rattle.right_strands.proofs.Moves.{attached_kept}
+use Rattle.right_strands.proofs.Boxes.{held_there}
 use Rattle.right_strands.proofs.strand.RightStrand.attach.Goals as goal
 
 pub invariant_of-self : goal.invariant_of-self
 invariant_of-self g c =
-    attached_kept g.J.Run.setting c.self.inside.start c.self.inside.failed c.args.self.now.strand c.self.inside.strand c.attach.new.self c.args.task c.task.inside.task c.task.inside.since (ap (λ (s : PlainRight). s.strand) c.self.view_is) c.task.view_is c.requires.was c.attach.ensures.called c.self.invariant
+    let d = c.deref_mut.result.now in
+    let start : d.start ≡ c.self.inside.body.value.start = search rules in
+    let failed : d.failed ≡ c.self.inside.body.value.failed = search rules in
+    let strand : d.strand ≡ c.self.inside.body.value.strand = search rules in
+    let held = held_there g.J.Run.setting c.self.inside.body.value.start d.start c.self.inside.body.value.failed d.failed c.self.inside.body.value.strand d.strand start failed strand c.self.invariant in
+    let same : d.strand ≡ c.args.self.now.strand = search rules in
+    attached_kept g.J.Run.setting d.start d.failed c.args.self.now.strand d.strand c.attach.new.self c.args.task c.task.inside.task c.task.inside.since same c.task.view_is c.requires.was c.attach.ensures.called held

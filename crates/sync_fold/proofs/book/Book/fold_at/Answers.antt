@@ -50,11 +50,11 @@ returns-in-Ok-fold_kept g c = record {
   taken = subst (λ (b : PlainBook). Took b.chronicle (Fold c.args.left.items c.args.right.items c.args.worker) (told c.fold.new.self)) c.self.view_is
       (subst (λ (b : PlainChronicle). Took b (Fold c.args.left.items c.args.right.items c.args.worker) (told c.fold.new.self)) c.prepare_fold.ensures.same
       (subst (λ s. Took (told c.prepare_fold.new.self) s (told c.fold.new.self)) c.in-Ok.ensures.step c.fold.ensures.taken));
-  joined = subst (λ (b : PlainBook). BeginAsOne (drop (position c.args.left.items b.chronicle.page.lines) b.laid) c.in-Ok-fold_kept.joined.0.value.strand) c.self.view_is
-      (subst (λ k. BeginAsOne (drop k c.self.inside.laid.items) c.in-Ok-fold_kept.joined.0.value.strand) (subst (λ (p : Place). c.in-Some.k ≡ position p c.self.inside.chronicle.page.lines) c.deref.ensures.value c.in-Some.ensures.0) c.in-Ok-fold_kept.ensures.joined);
+  joined = subst (λ (b : PlainBook). BeginAsOne (drop (position c.args.left.items b.chronicle.page.lines) b.laid) c.in-Ok-fold_kept.joined.0.strand) c.self.view_is
+      (subst (λ k. BeginAsOne (drop k c.self.inside.laid.items) c.in-Ok-fold_kept.joined.0.strand) (subst (λ (p : Place). c.in-Some.k ≡ position p c.self.inside.chronicle.page.lines) c.deref.ensures.value c.in-Some.ensures.0) c.in-Ok-fold_kept.ensures.joined);
   going = c.in-Ok-fold_kept.ensures.going;
   kit = c.in-Ok-fold_kept.ensures.kit;
-  counted = subst (λ (b : PlainBook). TakesUp c.in-Ok-fold_kept.joined.0.value.strand b.laid c.fold_kept.new.laid.items) c.self.view_is c.in-Ok-fold_kept.ensures.counted;
+  counted = subst (λ (b : PlainBook). TakesUp c.in-Ok-fold_kept.joined.0.strand b.laid c.fold_kept.new.laid.items) c.self.view_is c.in-Ok-fold_kept.ensures.counted;
   refused = tt;
   same = tt;
   kept = tt;

@@ -34,7 +34,7 @@ returns-in-Ok g c =
         refused = refused;
         taken = c.fold_found.ensures.taken;
       };
-      joined = first_become b c.in-Ok.left.items c.in-Ok.right.items c.in-Ok.left.items first refl c.fold_found.result (λ r. r.0.value.strand) c.fold_found.ensures.joined;
+      joined = first_become b c.in-Ok.left.items c.in-Ok.right.items c.in-Ok.left.items first refl c.fold_found.result (λ r. r.0.strand) c.fold_found.ensures.joined;
       kept = first_stay b c.fold_found.new.self c.in-Ok.left.items c.in-Ok.right.items c.in-Ok.left.items first refl c.fold_found.result c.fold_found.ensures.kept;
       going = c.fold_found.ensures.going;
       kit = c.fold_found.ensures.kit;

@@ -6,4 +6,4 @@ use Rattle.worker_seats.specs.Spots.{spot_of}
 use Rattle.threaded_driver.proofs.floor.Floor.run_strand.Given as goal
 
 abbrev pub invariant-loop : goal.invariant-loop
-invariant-loop g l = (goal.iterator-loop g).can_next l.iterator' × (goal.iterator-loop g).is_finite l.iterator' × IsBoundTo l.seat.here (spot_of l.strand.value.strand) × (kits_of l.strand.value.strand + l.supply.free ≡ most)
+invariant-loop g l = (goal.iterator-loop g).can_next l.iterator' × (goal.iterator-loop g).is_finite l.iterator' × IsBoundTo l.seat.here (spot_of l.strand.strand) × (kits_of l.strand.strand + l.supply.free ≡ most)
