@@ -6,6 +6,7 @@ mod ahead;
 mod answering;
 mod ending;
 mod joining;
+mod lists;
 mod moves;
 mod places;
 mod recording;

@@ -23,6 +23,7 @@ use numbered_runs::refusal::StartError;
 use record_index::indexed::IndexedRecords;
 use rerun_records::records::Records;
 use session_edits::Edit;
+use small_steps::lists::WorkLists;
 use std::alloc::{AllocError, Global};
 use std::marker::Model;
 use std::mem;
@@ -38,6 +39,8 @@ pub struct Session<V: View = Box<dyn View>> {
     pub(crate) inlined: usize,
     // When blocks are made of the records that runs leave.
     blocks: Blocks,
+    // What the first worker of a run works with, so that the one of the next run needs no new lists.
+    lists: WorkLists,
 }
 
 impl<V: View> Model for Session<V> {
@@ -83,6 +86,7 @@ impl<V: View> Session<V> {
             records,
             inlined: 0,
             blocks: Blocks::AtOnce,
+            lists: WorkLists::new(alloc),
         })
     }
 
@@ -204,6 +208,20 @@ impl<V: View> Session<V> {
         ensures left { self.new ≡ record self.old { kits = stock_of [] } }
     {
         mem::replace(&mut self.kits, Pool::new(Vec::new(alloc)))
+    }
+
+    /// Takes out the lists that a run's first worker works with, and leaves new ones, which take no memory.
+    pub fn take_lists(&mut self, alloc: Global) -> WorkLists
+        ensures same { self.new ≡ self.old }
+    {
+        mem::replace(&mut self.lists, WorkLists::new(alloc))
+    }
+
+    /// Keeps such lists for the next run.
+    pub fn keep_lists(&mut self, lists: WorkLists)
+        ensures same { self.new ≡ self.old }
+    {
+        self.lists = lists;
     }
 
     /// Puts a pool in the place of the one that is there, and changes nothing else.

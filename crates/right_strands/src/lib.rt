@@ -4,6 +4,7 @@
 mod body;
 pub mod laid;
 pub mod laws;
+mod lists;
 pub mod pair;
 pub mod run;
 pub mod spare;

@@ -4,6 +4,7 @@
 mod advance;
 mod entering;
 mod evaluating;
+pub mod lists;
 mod loops;
 pub mod machine;
 mod memo;

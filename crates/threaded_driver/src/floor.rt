@@ -165,12 +165,14 @@ impl<J: Run + Ledger + Stocked + Send, D: Deques, V: View> Floor<'_, J, D, V> {
         ensures fresh { seat.new.here ≡ None }
     {
         let (mut strand, share) = held.into_parts();
+        seat.lend_lists(&mut strand);
         let mut supply = Supply::new(rt, &self.desk, share, strand.kits());
         for _ in rt.forever() {
             if !self.step(rt, number, seat, &mut strand, &mut supply, gate) {
                 break;
             }
         }
+        seat.lend_lists(&mut strand);
         self.lay(rt, number, seat, strand, supply, gate);
     }
 

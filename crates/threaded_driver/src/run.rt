@@ -29,6 +29,7 @@ use numbered_runs::step::BookStep;
 use positions::answer::RunAnswer;
 use rerun_records::records::Records;
 use right_strands::run::Run;
+use small_steps::lists::WorkLists;
 use std::alloc::{AllocError, Global};
 use std::marker::Brand;
 use std::sync::Wait;
@@ -49,6 +50,13 @@ struct Borrowed<'a> {
     program: &'a Checked,
     tables: &'a Tables,
     records: &'a Records,
+}
+
+/// What a run takes out of its session and puts back: the kits, and lists that the first worker works with.
+#[derive(Drop)]
+struct Stock<V: View> {
+    pool: Pool<Kit<V>>,
+    lists: WorkLists,
 }
 
 /// Runs a session's program on its tables by so many threads. Its memo instances are answered by the records that hold now, and
@@ -86,20 +94,23 @@ pub fn run_threads<V: View + Send, R: Threads + Wait + Sync, G: Gate>(
     // What the type keeps of its records, tables and kits: so a run may begin with them.
     session.upheld();
     let pool = session.take_pool(alloc);
+    let lists = session.take_lists(alloc);
     let borrowed = Borrowed {
         program: session.checked(),
         tables: session.tables(),
         records: session.records(),
     };
-    let (ran, pool) = run_borrowed::<Brand, V, R, G>(
+    let (ran, stock) = run_borrowed::<Brand, V, R, G>(
         rt,
         alloc,
         borrowed,
-        pool,
+        Stock { pool, lists },
         Blanks::new(workers),
         workers,
         gate,
     );
+    let Stock { pool, lists } = stock;
+    session.keep_lists(lists);
     match ran {
         Ok(ended) => Ok(give_back(alloc, session, pool, ended)),
         Err(mismatch) => {
@@ -141,16 +152,16 @@ fn give_back<V: View>(
     }
 }
 
-/// How a run of what is lent has ended, and the pool.
+/// How a run of what is lent has ended, and the stock.
 fn run_borrowed<J, V, R, G>(
     rt: &R,
     alloc: Global,
     borrowed: Borrowed<'_>,
-    pool: Pool<Kit<V>>,
+    stock: Stock<V>,
     blanks: Blanks,
     workers: usize,
     gate: &G,
-) -> (Result<Ended, Mismatch>, Pool<Kit<V>>)
+) -> (Result<Ended, Mismatch>, Stock<V>)
 where
     J: Run + Ledger + Stocked + Send + Sync,
     V: View + Send,
@@ -161,9 +172,9 @@ where
     requires sound { AreSound (revised_of borrowed.program.now) borrowed.program.now.tables borrowed.program.now.kinds borrowed.records.now }
     requires values { HaveValues borrowed.program.now.kinds borrowed.records.now }
     requires in_step { IsInStep borrowed.tables.now.tables borrowed.records.now }
-    requires kinds { All (λ k. k ≡ J.setting.kinds) pool.kits }
-    requires total { pool.total ≡ J.total }
-    requires begun { length pool.kits ≡ J.begun }
+    requires kinds { All (λ k. k ≡ J.setting.kinds) stock.pool.kits }
+    requires total { stock.pool.total ≡ J.total }
+    requires begun { length stock.pool.kits ≡ J.begun }
     requires name { blanks.leavers.name ≡ J.name }
     requires parts { (blanks.leavers.parts ≡ J.parts) × (J.parts ≡ workers) }
     requires ledger { blanks.kits.name ≡ J.ledger }
@@ -172,25 +183,25 @@ where
     ensures refusal { IfErr result.0 (λ m. is_refusal m.refusal ≡ true) }
     ensures refused { IfErr result.0 (λ m. WasRefused m.refusal) }
     ensures near { IfErr result.0 (λ m. is_apart m.refusal ≡ false) }
-    ensures home { IfOk result.0 (λ e. HasEnded e.answer → length result.1.kits ≡ length pool.kits) }
-    ensures kinds { All (λ k. k ≡ J.setting.kinds) result.1.kits }
-    ensures total { result.1.total ≡ J.total }
+    ensures home { IfOk result.0 (λ e. HasEnded e.answer → length result.1.pool.kits ≡ length stock.pool.kits) }
+    ensures kinds { All (λ k. k ≡ J.setting.kinds) result.1.pool.kits }
+    ensures total { result.1.pool.total ≡ J.total }
 {
     match deques_of(alloc, blanks, workers) {
-        Ok(deques) => run_through::<J, Brand, V, R, G>(rt, alloc, borrowed, pool, deques, gate),
-        Err(AllocError) => (Ok(Ended::without_memory(alloc)), pool),
+        Ok(deques) => run_through::<J, Brand, V, R, G>(rt, alloc, borrowed, stock, deques, gate),
+        Err(AllocError) => (Ok(Ended::without_memory(alloc)), stock),
     }
 }
 
-/// How a run of what is lent has ended through these deques, one for each worker, and the pool.
+/// How a run of what is lent has ended through these deques, one for each worker, and the stock.
 fn run_through<J, D, V, R, G>(
     rt: &R,
     alloc: Global,
     borrowed: Borrowed<'_>,
-    pool: Pool<Kit<V>>,
+    stock: Stock<V>,
     deques: NewDeques<J>,
     gate: &G,
-) -> (Result<Ended, Mismatch>, Pool<Kit<V>>)
+) -> (Result<Ended, Mismatch>, Stock<V>)
 where
     J: Run + Ledger + Stocked + Send + Sync,
     D: Deques + Send + Sync,
@@ -202,36 +213,42 @@ where
     requires sound { AreSound (revised_of borrowed.program.now) borrowed.program.now.tables borrowed.program.now.kinds borrowed.records.now }
     requires values { HaveValues borrowed.program.now.kinds borrowed.records.now }
     requires in_step { IsInStep borrowed.tables.now.tables borrowed.records.now }
-    requires kinds { All (λ k. k ≡ J.setting.kinds) pool.kits }
-    requires total { pool.total ≡ J.total }
-    requires begun { length pool.kits ≡ J.begun }
+    requires kinds { All (λ k. k ≡ J.setting.kinds) stock.pool.kits }
+    requires total { stock.pool.total ≡ J.total }
+    requires begun { length stock.pool.kits ≡ J.begun }
     requires named { D.deques ≡ deques }
     requires some { 0 < length deques }
     ensures end { IfOk result.0 (IsEnd J.setting) }
     ensures refusal { IfErr result.0 (λ m. is_refusal m.refusal ≡ true) }
     ensures refused { IfErr result.0 (λ m. WasRefused m.refusal) }
     ensures near { IfErr result.0 (λ m. is_apart m.refusal ≡ false) }
-    ensures home { IfOk result.0 (λ e. HasEnded e.answer → length result.1.kits ≡ length pool.kits) }
-    ensures kinds { All (λ k. k ≡ J.setting.kinds) result.1.kits }
-    ensures total { result.1.total ≡ J.total }
+    ensures home { IfOk result.0 (λ e. HasEnded e.answer → length result.1.pool.kits ≡ length stock.pool.kits) }
+    ensures kinds { All (λ k. k ≡ J.setting.kinds) result.1.pool.kits }
+    ensures total { result.1.pool.total ≡ J.total }
 {
     let Borrowed {
         program,
         tables,
         records,
     } = borrowed;
+    let Stock { pool, mut lists } = stock;
     match Floor::<J, D, V>::new(alloc, program, tables, records, pool, deques) {
-        Ok((floor, seats)) => run_floor(rt, alloc, floor, seats, gate),
-        Err((_, pool)) => (Ok(Ended::without_memory(alloc)), pool),
+        Ok((floor, seats)) => {
+            let (ran, pool) = run_floor(rt, alloc, floor, seats, &mut lists, gate);
+            (ran, Stock { pool, lists })
+        }
+        Err((_, pool)) => (Ok(Ended::without_memory(alloc)), Stock { pool, lists }),
     }
 }
 
-/// How a run has ended, and the pool: its first worker goes on by itself at first, and then a thread is started for each other seat.
+/// How a run has ended, and the pool: its first worker goes on by itself at first, with these lists, and then a thread is started for each other
+/// seat. The lists then stay as they are.
 fn run_floor<J, D, V, R, G>(
     rt: &R,
     alloc: Global,
     floor: Floor<'_, J, D, V>,
     seats: Vec<Seat<J, D>>,
+    lists: &mut WorkLists,
     gate: &G,
 ) -> (Result<Ended, Mismatch>, Pool<Kit<V>>)
 where
@@ -255,7 +272,12 @@ where
     }
     let mut seats = seats;
     match seats.pop() {
-        Some(seat) => left.push_reserved(lead(rt, &floor, seat, seats, gate)),
+        Some(mut seat) => {
+            seat.exchange_lists(lists);
+            let mut seat = lead(rt, &floor, seat, seats, gate);
+            seat.exchange_lists(lists);
+            left.push_reserved(seat);
+        }
         None => unreachable!(),
     }
     finish(floor, left)
@@ -284,7 +306,10 @@ where
     let (number, found) = floor.begin(rt, &mut seat, gate);
     match found {
         Found::Left => seat,
-        found => live_beside(rt, floor, number, seat, found, others, gate),
+        found => {
+            seat.keep_lists();
+            live_beside(rt, floor, number, seat, found, others, gate)
+        }
     }
 }
 

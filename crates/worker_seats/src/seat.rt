@@ -5,11 +5,15 @@ ghost use Rattle.worker_seats.specs.Spots.{bottom_of, own_spot, child_spot};
 
 use crate::waiting::Waiting;
 use right_strands::run::Run;
+use right_strands::strand::RightStrand;
 use right_strands::task::RightTask;
+use small_steps::lists::WorkLists;
 use std::alloc::{AllocError, Global};
 use std::marker::Model;
+use std::mem;
 use std::sync::ledger::{Book as Count, Ledger, Share};
 use stealing_deques::{Deques, OwnerEnd, Spot, ThiefEnd};
+use view_pool::View;
 
 /// How many continuations a deque holds at most. The oldest are the largest pieces of a worker's work: as long as nobody takes one of
 /// these, nobody needs more of them, and a call costs less than a push and a pop. Where thieves take some, more are pushed.
@@ -21,13 +25,16 @@ pub struct PlainSeat {
     pub here: Option<Spot>,
 }
 
-/// What a worker has to itself: its end of its deque, and its part of the count of those that have left. Whether its deque may be bound
-/// to a spot stands beside it, so that nobody has to ask under the lock where it isn't.
+/// What a worker has to itself: its end of its deque, its part of the count of those that have left, and lists to work with. Whether its deque
+/// may be bound to a spot stands beside it, so that nobody has to ask under the lock where it isn't.
 #[derive(Drop)]
 pub struct Seat<J: Run + Ledger + Send, D: Deques> {
     owner: OwnerEnd<Waiting<J>, D>,
     share: Share<J>,
     may_be_bound: bool,
+    // What the first strand of a run works with while its worker is alone, and whether it is.
+    lists: WorkLists,
+    serves: bool,
 }
 
 impl<J: Run + Ledger + Send, D: Deques> Model for Seat<J, D> {
@@ -43,7 +50,7 @@ impl<J: Run + Ledger + Send, D: Deques> Model for Seat<J, D> {
 
 impl<J: Run + Ledger + Send, D: Deques> Seat<J, D> {
     /// A seat with that end of a deque and that part of the count.
-    fn new(owner: OwnerEnd<Waiting<J>, D>, share: Share<J>) -> Seat<J, D>
+    fn new(alloc: Global, owner: OwnerEnd<Waiting<J>, D>, share: Share<J>) -> Seat<J, D>
         requires one { share.parts ≡ 1 }
         requires none { share.amount ≡ 0 }
         ensures none { result.left ≡ 0 }
@@ -52,6 +59,33 @@ impl<J: Run + Ledger + Send, D: Deques> Seat<J, D> {
             owner,
             share,
             may_be_bound: true,
+            lists: WorkLists::new(alloc),
+            serves: false,
+        }
+    }
+
+    /// Works with these lists from then on, while it is alone, and leaves there those that it had.
+    pub fn exchange_lists(&mut self, lists: &mut WorkLists)
+        ensures same { self.new ≡ self.old }
+    {
+        mem::swap(&mut self.lists, lists);
+        self.serves = true;
+    }
+
+    /// Its lists serve no strand any more: strands that are folded into another bring lists along, so these would grow from run to run.
+    pub fn keep_lists(&mut self)
+        ensures same { self.new ≡ self.old }
+    {
+        self.serves = false;
+    }
+
+    /// The strand goes on with its lists, where they serve it, and leaves its own here. It takes no memory.
+    pub fn lend_lists<V: View>(&mut self, strand: &mut RightStrand<J, V>)
+        ensures same { self.new ≡ self.old }
+        ensures strand { strand.new ≡ strand.old }
+    {
+        if self.serves {
+            strand.exchange_lists(&mut self.lists);
         }
     }
 
@@ -151,7 +185,7 @@ pub fn seats_of<J: Run + Ledger + Send, D: Deques>(
     let mut share = share;
     let mut seats = Vec::new(alloc);
     while let Some(owner) = owners.pop() {
-        seats.push(Seat::new(owner, share.split_off(1, 0)))?;
+        seats.push(Seat::new(alloc, owner, share.split_off(1, 0)))?;
     }
     Ok(seats)
 }

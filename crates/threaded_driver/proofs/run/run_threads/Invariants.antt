@@ -9,4 +9,4 @@ abbrev pub ghosts-run_borrowed-J-Ledger : goal.ghosts-run_borrowed-J-Ledger
 ghosts-run_borrowed-J-Ledger g a = record { name = a.blanks.leavers.name; parts = a.blanks.leavers.parts }
 
 abbrev pub ghosts-run_borrowed-J-Stocked : goal.ghosts-run_borrowed-J-Stocked
-ghosts-run_borrowed-J-Stocked g a = record { total = a.pool.total; begun = length a.pool.kits; ledger = a.blanks.kits.name }
+ghosts-run_borrowed-J-Stocked g a = record { total = a.stock.pool.total; begun = length a.stock.pool.kits; ledger = a.blanks.kits.name }
