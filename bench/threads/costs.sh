@@ -16,8 +16,8 @@ fib=24
 spawned=75024 # by fib(24)
 few=2000 many=8000
 # Parts of the names of the functions that begin a stolen strand, and of those that fold a pair.
-beginning='Desk::begin_stolen|Desk::split|Book::split|Chronicle::split|Strand::stolen|Machine::stolen'
-folding='Desk::fold|Book::fold_pair|Book::fold_at|fold_kept|Pair::join|Strand::join|Machine::join|Hypermap::fold'
+beginning='Table::rob|begin_stolen|Book::split|Chronicle::split|Strand::stolen'
+folding='Desk::fold|Book::fold|fold_kept|Pair::join|Strand::join|Strand::lay_bare|Hypermap::fold'
 echo run > "$room/once"
 : > "$room/tables"
 calls $fib > "$room/calls"
