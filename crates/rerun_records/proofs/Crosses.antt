@@ -5,6 +5,7 @@ use Rattle.place_chains.proofs.places.Places.TheSendSync as places
 use Rattle.monoid_laws.proofs.Kind.TheSendSync as kinds
 use Rattle.rerun_records.specs.contracts.records.Records as Records
 use Rattle.rerun_records.specs.contracts.block.Block as Block
+use Rattle.rerun_records.specs.contracts.slot.Slot as Slot
 use Rattle.rerun_records.specs.contracts.level.Level as Level
 use Rattle.rerun_records.specs.contracts.blocks.Blocks as Blocks
 use Rattle.rerun_records.specs.contracts.covers.Covers as Covers
@@ -16,11 +17,17 @@ block_send = let s = record_send in search (sendable, crosses) depth 20
 block_sync : IsSync (Block.the_field).row
 block_sync = let y = record_sync in search (sendable, crosses) depth 20
 
+slot_send : IsSend (Slot.the_field).row
+slot_send = let s = block_send in search (sendable, crosses) depth 20
+
+slot_sync : IsSync (Slot.the_field).row
+slot_sync = let y = block_sync in search (sendable, crosses) depth 20
+
 level_send : IsSend (Level.the_field).row
-level_send = let s = block_send in search (sendable, crosses) depth 20
+level_send = let s = slot_send in search (sendable, crosses) depth 20
 
 level_sync : IsSync (Level.the_field).row
-level_sync = let y = block_sync in search (sendable, crosses) depth 20
+level_sync = let y = slot_sync in search (sendable, crosses) depth 20
 
 blocks_send : IsSend (Blocks.the_field).row
 blocks_send = let s = level_send in search (sendable, crosses, kinds.the_send) depth 20

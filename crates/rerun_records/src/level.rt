@@ -6,6 +6,7 @@ ghost use Rattle.rerun_records.specs.Blocks.{PlainBlock, live_at, IsLive, Remain
 
 use crate::block::Block;
 use crate::due::Due;
+use crate::slot::Slot;
 use std::alloc::{AllocError, Global};
 use std::marker::Model;
 
@@ -15,7 +16,7 @@ const NOWHERE: u32 = u32::MAX;
 /// Blocks by numbers, of which some were dropped. No record is part of two.
 #[derive(Drop)]
 pub(crate) struct Level {
-    blocks: Vec<Option<Block>>,
+    blocks: Vec<Slot>,
     // By places, the number of a block: that of the block that the record is part of, if it is part of any.
     homes: Vec<u32>,
 }
@@ -88,18 +89,18 @@ impl Level {
 }
 
 // The block of that number, if it wasn't dropped.
-fn numbered(blocks: &[Option<Block>], number: usize) -> Option<&Block>
+fn numbered(blocks: &[Slot], number: usize) -> Option<&Block>
     ensures numbered { option_copied result ≡ live_at blocks.now number }
 {
     match blocks.get(number) {
-        Some(block) => block.as_ref(),
+        Some(slot) => slot.block(),
         None => None,
     }
 }
 
 // Drops the block that has the record at that place as part, if there is one.
 #[inline(always)]
-fn drop_home(blocks: &mut Vec<Option<Block>>, homes: &[u32], place: usize, due: &mut Due)
+fn drop_home(blocks: &mut Vec<Slot>, homes: &[u32], place: usize, due: &mut Due)
     requires housed { AreHoused homes.now blocks.old.items }
     ensures remain { Remain blocks.new.items blocks.old.items }
     ensures free { IsFree place blocks.new.items }
@@ -113,35 +114,18 @@ fn drop_home(blocks: &mut Vec<Option<Block>>, homes: &[u32], place: usize, due: 
 
 // Drops the block of that number, and notes that one of its records is due.
 #[inline(never)]
-fn drop_numbered(blocks: &mut Vec<Option<Block>>, number: usize, due: &mut Due)
+fn drop_numbered(blocks: &mut Vec<Slot>, number: usize, due: &mut Due)
     ensures dropped { blocks.new.items ≡ slice_set blocks.old.items number None }
     ensures count { length blocks.new.items ≡ length blocks.old.items }
 {
-    if number >= blocks.len() {
-        return;
-    }
-    // Most were dropped before: nothing is moved then.
-    if blocks[number].is_none() {
-        return;
-    }
-    note_first(&blocks[number], due);
-    blocks[number] = None;
-}
-
-// Notes that the first record of a block is due.
-fn note_first(block: &Option<Block>, due: &mut Due) {
-    match block {
-        Some(block) => match block.places().first() {
-            Some(first) => due.note(*first),
-            None => {}
-        },
-        None => {}
+    if number < blocks.len() {
+        blocks[number].drop_block(due);
     }
 }
 
 // Adds a block, in the place of those that have one of its records as part.
 fn put_block(
-    blocks: &mut Vec<Option<Block>>,
+    blocks: &mut Vec<Slot>,
     homes: &mut Vec<u32>,
     block: Block,
     due: &mut Due,
@@ -154,16 +138,12 @@ fn put_block(
     let number = number_for(blocks, homes, block.places())?;
     drop_numbered(blocks, number as usize, due);
     move_all(blocks, homes, block.places(), number, due)?;
-    blocks[number as usize] = Some(block);
+    blocks[number as usize].fill(block);
     Ok(())
 }
 
 // A number for a block with these places: that of the one which has the first record as part, or one more.
-fn number_for(
-    blocks: &mut Vec<Option<Block>>,
-    homes: &[u32],
-    places: &[u32],
-) -> Result<u32, AllocError>
+fn number_for(blocks: &mut Vec<Slot>, homes: &[u32], places: &[u32]) -> Result<u32, AllocError>
     ensures remain { Remain blocks.new.items blocks.old.items }
     ensures within { IfOk result (λ number. number < length blocks.new.items) }
 {
@@ -180,7 +160,7 @@ fn first_home(homes: &[u32], places: &[u32]) -> Option<u32> {
 }
 
 // The next number, at which no block is yet.
-fn one_more(blocks: &mut Vec<Option<Block>>) -> Result<u32, AllocError>
+fn one_more(blocks: &mut Vec<Slot>) -> Result<u32, AllocError>
     ensures remain { Remain blocks.new.items blocks.old.items }
     ensures within { IfOk result (λ number. number < length blocks.new.items) }
 {
@@ -188,13 +168,13 @@ fn one_more(blocks: &mut Vec<Option<Block>>) -> Result<u32, AllocError>
     if number >= NOWHERE as usize {
         return Err(AllocError);
     }
-    blocks.push(None)?;
+    blocks.push(Slot::new())?;
     Ok(number as u32)
 }
 
 // Has the records at these places be at home at that number, and drops the blocks that they were part of.
 fn move_all(
-    blocks: &mut Vec<Option<Block>>,
+    blocks: &mut Vec<Slot>,
     homes: &mut Vec<u32>,
     places: &[u32],
     number: u32,
@@ -229,7 +209,7 @@ fn are_home(homes: &[u32], places: &[u32], number: u32) -> bool
 
 // Has the record at that place be at home at that number, and drops the block that it was part of.
 fn move_in(
-    blocks: &mut Vec<Option<Block>>,
+    blocks: &mut Vec<Slot>,
     homes: &mut Vec<u32>,
     place: u32,
     number: u32,

@@ -14,4 +14,5 @@ pub mod records;
 pub mod series;
 mod settling;
 mod skips;
+mod slot;
 mod telling;
