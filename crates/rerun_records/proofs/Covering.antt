@@ -2,6 +2,7 @@
 use Rattle.std.proofs.Common.{◌≡◌, ◌⊎◌, inl, inr, ◌<◌, ◌≤◌, ◌+◌, ◌-◌, ◌*◌, ◌/◌, ◌%◌, ℕ, zero, suc, ℤ, Bool, true, false, true≢false, not, List, [], ◌∷◌, ◌++◌, Some, None, length, take, drop, refl, sym, ap, ◌∙◌, subst, arith, get_or}
 use Rattle.std.proofs.lemmas.Bool.Decides.{Decides-eqb}
 use Rattle.std.proofs.lemmas.List.{length-append, length-set}
+use Rattle.std.proofs.lemmas.List.Folds.{list_any-append}
 use Rattle.std.proofs.Math.Nat.{div-mul-le_self, le-div_iff_mul-le, div-lt_iff_lt-mul, mod-lt}
 use Rattle.std.proofs.lemmas.Nat.{mul-le, div-mul-add, div-add-mod'}
 use Rattle.std.proofs.lemmas.Option.{slice_get-get_or, slice_get_within, get_or_from_slice_get}
@@ -126,20 +127,36 @@ past_level records place rest level past c = record {
 pub past_levels : (records : List PlainRecord) (place : ℕ) (rest : List ℕ) (levels : List PlainLevel) → length records ≤ place → AreLevelsBut (place ∷ rest) records levels → AreLevelsBut rest records levels
 past_levels records place rest levels past = each_level (place ∷ rest) rest records records (λ level. past_level records place rest level past) levels
 
--- with other records at these places and more behind, hulls hold what the others have read
-same_level : (places : List ℕ) (before now : List PlainRecord) (level : PlainLevel) → AreSameBut places before now → CoversLevel before level → CoversBut places now level
-same_level places before now level s c = record {
+-- what is in neither of two lists
+left_not : (a b : Bool) → a || b ≡ false → a ≡ false
+left_not true b e = absurd (true≢false e)
+left_not false b e = refl
+
+right_not : (a b : Bool) → a || b ≡ false → b ≡ false
+right_not true b e = absurd (true≢false e)
+right_not false b e = e
+
+pub in_neither : (p : ℕ) (xs ys : List ℕ) → list_any (nat_eq p) (xs ++ ys) ≡ false → (list_any (nat_eq p) xs ≡ false) × (list_any (nat_eq p) ys ≡ false)
+in_neither p xs ys e =
+    let none : list_any (nat_eq p) xs || list_any (nat_eq p) ys ≡ false = sym (list_any-append (nat_eq p) xs ys) ∙ e in
+    (left_not (list_any (nat_eq p) xs) (list_any (nat_eq p) ys) none, right_not (list_any (nat_eq p) xs) (list_any (nat_eq p) ys) none)
+
+-- with other records at these places and more behind, hulls hold what the others have read that they held before
+same_level : (late places later : List ℕ) (before now : List PlainRecord) (level : PlainLevel) → AreSameBut places before now
+    → ((p : ℕ) → list_any (nat_eq p) later ≡ false → (list_any (nat_eq p) late ≡ false) × (list_any (nat_eq p) places ≡ false)) → CoversBut late before level → CoversBut later now level
+same_level late places later before now level s none c = record {
   full = (let all = c.full in let more = s.no_fewer in omega (arith, all, more));
   held = λ i p h r at from upto other there.
       let number : i < length level.hulls = slice_get_within level.hulls i h at in
       let hulled : p < length level.hulls * level.width = within_hulls level.width i (length level.hulls) p number upto in
       let all = c.full in
       let old : p < length before = omega (arith, hulled, all) in
-      c.held i p h r at from upto refl (s.same p r old other there);
+      c.held i p h r at from upto (none p other).0 (s.same p r old (none p other).1 there);
 }
 
-pub levels_but : (places : List ℕ) (before now : List PlainRecord) (levels : List PlainLevel) → AreSameBut places before now → AreLevelsBut [] before levels → AreLevelsBut places now levels
-levels_but places before now levels s = each_level [] places before now (λ level. same_level places before now level s) levels
+pub levels_but : (late places later : List ℕ) (before now : List PlainRecord) (levels : List PlainLevel) → AreSameBut places before now
+    → ((p : ℕ) → list_any (nat_eq p) later ≡ false → (list_any (nat_eq p) late ≡ false) × (list_any (nat_eq p) places ≡ false)) → AreLevelsBut late before levels → AreLevelsBut later now levels
+levels_but late places later before now levels s none = each_level late later before now (λ level. same_level late places later before now level s none) levels
 
 -- the record at a place is the one that is read there
 pub there_is : (records : List PlainRecord) (place : ℕ) (r x : PlainRecord) → slice_get records place ≡ Some r → x ≡ get_or records place x → r.reads ≡ x.reads
@@ -281,10 +298,6 @@ appended_same_but records more = record {
   no_fewer = (let long = length-append records more in omega (arith, long));
   same = λ p r w other there. got_within records more p r w there;
 }
-
-left_not : (a b : Bool) → a || b ≡ false → a ≡ false
-left_not true b e = absurd (true≢false e)
-left_not false b e = refl
 
 got_other : (records : List PlainRecord) (place p : ℕ) (made r : PlainRecord) → (p ≡ place → ⊥) → slice_get (slice_set records place made) p ≡ Some r → slice_get records p ≡ Some r
 got_other [] place p made r d e = e

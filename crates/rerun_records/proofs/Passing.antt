@@ -10,11 +10,11 @@ use Rattle.record_theory.specs.Record.{PlainRecord}
 use Rattle.instance_records.specs.declared.spans.Span.{Span}
 use Rattle.instance_records.specs.Spans.{is_covered_by}
 use Rattle.record_theory.specs.InStep.{is_apart}
-use Rattle.rerun_records.specs.Covers.{PlainCovers, AreCoveredBut, AreCovered, AreApart, AreSameBut}
+use Rattle.rerun_records.specs.Covers.{PlainCovers, AreCoveredBut, AreCovered, AreKept, AreApart, AreSameBut}
 use Rattle.rerun_records.specs.Skips.{PlainSkip, PlainSkips, IsInHull, LiesIn, PassBut, Reaches}
 use Rattle.record_theory.proofs.Members.{every_weaker}
 use Rattle.instance_records.proofs.Joined.{below}
-use Rattle.rerun_records.proofs.Covering.{neither, past_levels, levels_but, appended_same_but}
+use Rattle.rerun_records.proofs.Covering.{neither, past_levels, levels_but, appended_same_but, in_neither}
 
 abbrev pub with_done : ℕ → List PlainSkip → PlainSkips
 with_done done skips = record { done = done; skips = skips }
@@ -151,9 +151,10 @@ cut_pass records place rest done number skips c none =
     none_pass records place rest (with_done done (take number skips)) (fewer_pass (place ∷ rest) records done number skips c)
     (λ i s l at. (let was = taken_back number i skips s at in none i s was.0 was.1))
 
--- with other records at these places and more behind, hulls hold what the others have read
-pub same_pass : (places : List ℕ) (before now : List PlainRecord) (all : PlainSkips) → AreSameBut places before now → PassBut [] before all → PassBut places now all
-same_pass places before now all same c = record {
+-- with other records at these places and more behind, hulls hold what the others have read that they held before
+pub same_pass : (late places later : List ℕ) (before now : List PlainRecord) (all : PlainSkips) → AreSameBut places before now
+    → ((p : ℕ) → list_any (nat_eq p) later ≡ false → (list_any (nat_eq p) late ≡ false) × (list_any (nat_eq p) places ≡ false)) → PassBut late before all → PassBut later now all
+same_pass late places later before now all same none c = record {
   full = (let done = c.full in let more = same.no_fewer in omega (arith, done, more));
   some = c.some;
   ends = c.ends;
@@ -165,7 +166,7 @@ same_pass places before now all same c = record {
       let done = c.full in
       let ends = c.ends i s at in
       let old : p < length before = omega (arith, upto, ends, done) in
-      c.held i p s r at from upto refl (same.same p r old other there);
+      c.held i p s r at from upto (none p other).0 (same.same p r old (none p other).1 there);
 }
 
 -- those before one end no later
@@ -370,8 +371,22 @@ apart_there records done skips change i s first end c at passed p r from upto th
 pub past_covered : (records : List PlainRecord) (place : ℕ) (rest : List ℕ) (covers : PlainCovers) → length records ≤ place → AreCoveredBut (place ∷ rest) records covers → AreCoveredBut rest records covers
 past_covered records place rest covers past c = (past_levels records place rest covers.levels past c.0, past_pass records place rest covers.skips past c.1)
 
-pub covered_but : (places : List ℕ) (before now : List PlainRecord) (covers : PlainCovers) → AreSameBut places before now → AreCovered before covers → AreCoveredBut places now covers
-covered_but places before now covers same c = (levels_but places before now covers.levels same c.0, same_pass places before now covers.skips same c.1)
+pub covered_but : (late places later : List ℕ) (before now : List PlainRecord) (covers : PlainCovers) → AreSameBut places before now
+    → ((p : ℕ) → list_any (nat_eq p) later ≡ false → (list_any (nat_eq p) late ≡ false) × (list_any (nat_eq p) places ≡ false)) → AreCoveredBut late before covers → AreCoveredBut later now covers
+covered_but late places later before now covers same none c =
+    (levels_but late places later before now covers.levels same none c.0, same_pass late places later before now covers.skips same none c.1)
 
-pub appended_covered : (records more : List PlainRecord) (covers : PlainCovers) → AreCovered records covers → AreCovered (records ++ more) covers
-appended_covered records more covers = covered_but [] records (records ++ more) covers (appended_same_but records more)
+-- the place of one that was put in is late too, at the end or in front
+pub noted_late : (place : ℕ) (before now : List PlainRecord) (covers : PlainCovers) → AreSameBut (place ∷ []) before now → AreKept before covers → AreCoveredBut (covers.late ++ place ∷ []) now covers
+noted_late place before now covers same = covered_but covers.late (place ∷ []) (covers.late ++ place ∷ []) before now covers same (λ p e. in_neither p covers.late (place ∷ []) e)
+
+pub late_too : (place : ℕ) (before now : List PlainRecord) (covers : PlainCovers) → AreSameBut (place ∷ []) before now → AreKept before covers → AreCoveredBut (place ∷ covers.late) now covers
+late_too place before now covers same =
+    covered_but covers.late (place ∷ []) (place ∷ covers.late) before now covers same (λ p e. (let none = in_neither p (place ∷ []) covers.late e in (none.1, none.0)))
+
+pub appended_kept : (records more : List PlainRecord) (covers : PlainCovers) → AreKept records covers → AreKept (records ++ more) covers
+appended_kept records more covers = covered_but covers.late [] covers.late records (records ++ more) covers (appended_same_but records more) (λ p e. (e, refl))
+
+-- where no place is late
+pub none_late : (records : List PlainRecord) (covers : PlainCovers) → covers.late ≡ [] → AreCovered records covers → AreKept records covers
+none_late records covers none = subst (λ (ps : List ℕ). AreCoveredBut ps records covers) (sym none)

@@ -34,16 +34,21 @@ AreLevelsBut places records (level ∷ levels) = CoversBut places records level 
 abbrev pub CoversLevel : List PlainRecord → PlainLevel → Type 0
 CoversLevel = CoversBut []
 
--- hulls by levels, and beside them those of instances around others
+-- hulls by levels, beside them those of instances around others, and places whose hulls needn't hold yet what the record there has read
 pub record PlainCovers : Type 0 where
   pub levels : List PlainLevel
   pub skips : PlainSkips
+  pub late : List ℕ
 
 abbrev pub AreCoveredBut : List ℕ → List PlainRecord → PlainCovers → Type 0
 AreCoveredBut places records covers = AreLevelsBut places records covers.levels × PassBut places records covers.skips
 
 abbrev pub AreCovered : List PlainRecord → PlainCovers → Type 0
 AreCovered = AreCoveredBut []
+
+-- so it is but of the places that are late
+abbrev pub AreKept : List PlainRecord → PlainCovers → Type 0
+AreKept records covers = AreCoveredBut covers.late records covers
 
 -- from that place on up to another no record has read what the change of the row may have changed
 abbrev pub AreApart : List PlainRecord → ℕ × ℤ → ℕ → ℕ → Type 0

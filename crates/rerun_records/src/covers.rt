@@ -1,13 +1,13 @@
 // Hulls over records by their places, so that an edit passes over those that have read none of its rows.
 ghost use Rattle.std.specs.Prelude.{◌≡◌, ◌≤◌, ◌<◌, ◌+◌, ◌*◌, [], ◌∷◌, ℕ, List, Some, IfSome, IfNone, OnOk};
-ghost use Rattle.std.specs.Prelude.{slice_get, length, option_copied, true, false};
+ghost use Rattle.std.specs.Prelude.{slice_get, length, option_copied, true, false, drop};
 ghost use Rattle.evaluation.specs.declared.note.Note.{Note};
 ghost use Rattle.meaning.specs.Every.{every};
 ghost use Rattle.record_theory.specs.InStep.{is_apart};
 ghost use Rattle.record_theory.specs.Record.{PlainRecord};
 ghost use Rattle.instance_records.specs.Spans.{is_covered_by};
 ghost use Rattle.instance_records.specs.declared.spans.Span.{Span};
-ghost use Rattle.rerun_records.specs.Covers.{CoversBut, CoversLevel, AreCovered, AreApart, AreSameBut, is_hull_apart};
+ghost use Rattle.rerun_records.specs.Covers.{CoversBut, CoversLevel, AreCovered, AreCoveredBut, AreKept, AreApart, AreSameBut, is_hull_apart};
 
 use crate::listing::record_at;
 use crate::skips::{Cursor, Skips};
@@ -16,7 +16,7 @@ use instance_records::readings::Readings;
 use instance_records::record::Record;
 use std::alloc::{AllocError, Global};
 use std::marker::Model;
-use std::slice;
+use std::{mem, slice};
 
 /// The widths of hulls: so many records have one together.
 const WIDE: usize = 32_768;
@@ -28,6 +28,9 @@ const NARROW: usize = 32;
 /// So many hulls of one width make one of the next.
 const TOGETHER: usize = 32;
 
+/// Room for so many places is kept for those of the next run.
+const KEPT: usize = 64;
+
 /// Hulls of three widths, each for so many places one after another.
 #[derive(Drop)]
 pub(crate) struct Covers {
@@ -36,6 +39,8 @@ pub(crate) struct Covers {
     narrow: Vec<Hull>,
     // Hulls of instances around others.
     skips: Skips,
+    // Places at which another record was put in, whose hulls hold what it has read once they are asked.
+    late: Vec<usize>,
 }
 
 impl Model for Covers {
@@ -49,19 +54,21 @@ impl Model for Covers {
           ∷ record { width = 1024; hulls = c.middle.items }
           ∷ record { width = 32; hulls = c.narrow.items } ∷ [];
       skips = c.skips;
+      late = c.late.items;
     } };
 }
 
 impl Covers {
     /// No hulls; it takes no memory.
     pub(crate) fn new(alloc: Global) -> Covers
-        ensures none { (records : List PlainRecord) → AreCovered records result }
+        ensures none { (records : List PlainRecord) → AreKept records result }
     {
         Covers {
             wide: Vec::new(alloc),
             middle: Vec::new(alloc),
             narrow: Vec::new(alloc),
             skips: Skips::new(alloc),
+            late: Vec::new(alloc),
         }
     }
 
@@ -167,10 +174,76 @@ impl Covers {
         None
     }
 
-    /// Has the hulls of that place hold what the record there has read, which took another's place, as far as memory isn't refused.
+    /// Makes room to note so many places of records, no more than there are of these, as far as memory isn't refused.
+    pub(crate) fn make_room(&mut self, places: usize, records: usize)
+        ensures same { self.new ≡ self.old }
+    {
+        let left = records.saturating_sub(self.late.len());
+        let _ = self.late.reserve(places.min(left));
+    }
+
+    /// Notes that the hulls of that place don't hold yet what the record there has read, which took another's place: only who asks them
+    /// waits for that. Where there is no room to note it they hold it at once, as far as memory isn't refused.
+    #[inline(always)]
     pub(crate) fn put_in(&mut self, list: &[Record], place: usize)
-        ensures held { (before : List PlainRecord) → AreCovered before self.old
-            → AreSameBut (place ∷ []) before list.now → AreCovered list.now self.new }
+        ensures held { (before : List PlainRecord) → AreKept before self.old
+            → AreSameBut (place ∷ []) before list.now → AreKept list.now self.new }
+    {
+        if self.late.len() < self.late.capacity() {
+            self.late.push_reserved(place);
+        } else {
+            self.hold(list, place);
+        }
+    }
+
+    /// Has the hulls of all places hold what the records there have read, as far as memory isn't refused.
+    #[inline(always)]
+    pub(crate) fn settle(&mut self, list: &[Record])
+        requires kept { AreKept list.now self.old }
+        ensures held { AreCovered list.now self.new }
+        ensures kept { AreKept list.now self.new }
+        ensures none { self.new.late ≡ [] }
+    {
+        // Behind an edit there are none, and further edits needn't do anything.
+        if !self.late.is_empty() {
+            self.hold_late(list);
+        }
+    }
+
+    // The same, where there are some.
+    #[inline(never)]
+    fn hold_late(&mut self, list: &[Record])
+        requires kept { AreKept list.now self.old }
+        ensures held { AreCovered list.now self.new }
+        ensures kept { AreKept list.now self.new }
+        ensures none { self.new.late ≡ [] }
+    {
+        let alloc = *self.late.allocator();
+        let mut late = mem::replace(&mut self.late, Vec::new(alloc));
+        self.hold_all(list, &late);
+        late.clear();
+        if late.capacity() <= KEPT {
+            self.late = late;
+        }
+    }
+
+    // Has the hulls of these places hold what the records there have read, as far as memory isn't refused.
+    fn hold_all(&mut self, list: &[Record], places: &[usize])
+        requires kept { AreCoveredBut places.now list.now self.old }
+        ensures held { AreCovered list.now self.new }
+        ensures same { self.new.late ≡ self.old.late }
+    {
+        for place in places {
+            self.hold(list, *place);
+        }
+    }
+
+    // Has the hulls of that place hold what the record there has read, as far as memory isn't refused.
+    #[inline(never)]
+    fn hold(&mut self, list: &[Record], place: usize)
+        ensures held { (rest : List ℕ) → AreCoveredBut (place ∷ rest) list.now self.old
+            → AreCoveredBut rest list.now self.new }
+        ensures same { self.new.late ≡ self.old.late }
     {
         if place >= list.len() {
             return;
@@ -182,12 +255,22 @@ impl Covers {
         self.skips.put_in(place, reads);
     }
 
-    /// Makes hulls of the records whose places have none and are enough for one, as far as memory isn't refused. Only the narrowest
-    /// are made of the records, and each wider one of those that lie in it: so each record is looked at once, and once more where it is of an
-    /// instance around others.
+    /// Makes hulls of the records whose places have none and are enough for one, and has the others hold what was read, as far as memory isn't
+    /// refused. Only the narrowest are made of the records, and each wider one of those that lie in it: so each record is looked at once,
+    /// and once more where it is of an instance around others.
     pub(crate) fn grow(&mut self, alloc: Global, list: &[Record])
+        requires kept { AreKept list.now self.old }
+        ensures kept { AreKept list.now self.new }
+    {
+        self.settle(list);
+        self.add(alloc, list);
+    }
+
+    // Makes the hulls that are missing, as far as memory isn't refused.
+    fn add(&mut self, alloc: Global, list: &[Record])
         requires held { AreCovered list.now self.old }
         ensures held { AreCovered list.now self.new }
+        ensures same { self.new.late ≡ self.old.late }
     {
         add_all(alloc, &mut self.narrow, NARROW, list);
         join_all(alloc, &mut self.middle, &self.narrow);

@@ -9,7 +9,7 @@ ghost use Rattle.record_theory.specs.InStep.{IsInStep, ReadNow, reads_agree};
 ghost use Rattle.meaning.specs.Tables.{Tables as PlainTables};
 ghost use Rattle.record_theory.specs.Commits.{put_record, put_records, AreSingle};
 ghost use Rattle.rerun_records.specs.Blocks.{BlocksFit, BlocksRemain, IsFree, is_fresh_at};
-ghost use Rattle.rerun_records.specs.Covers.{AreCovered};
+ghost use Rattle.rerun_records.specs.Covers.{AreKept};
 
 use crate::blocks::Blocks;
 use crate::covers::Covers;
@@ -138,13 +138,13 @@ pub(crate) fn put_all(
     requires numbered { places.old.numbers ≡ map instance_number list.old.items }
     requires numbers { HaveNumbers numbers.old.items list.old.items }
     requires fit { BlocksFit (with_numbers numbers.old.items list.old.items) blocks.old }
-    requires covered { AreCovered list.old.items covers.old }
+    requires covered { AreKept list.old.items covers.old }
     ensures put { with_numbers numbers.new.items list.new.items
         ≡ put_records (with_numbers numbers.old.items list.old.items) records.items }
     ensures numbered { places.new.numbers ≡ map instance_number list.new.items }
     ensures numbers { HaveNumbers numbers.new.items list.new.items }
     ensures fit { BlocksFit (with_numbers numbers.new.items list.new.items) blocks.new }
-    ensures covered { AreCovered list.new.items covers.new }
+    ensures covered { AreKept list.new.items covers.new }
     ensures as_made { map as_made (with_numbers numbers.new.items list.new.items)
         ≡ put_records (map as_made (with_numbers numbers.old.items list.old.items))
         records.items }
@@ -175,7 +175,7 @@ fn put(
     requires numbered { places.old.numbers ≡ map instance_number list.old.items }
     requires numbers { HaveNumbers numbers.old.items list.old.items }
     requires fit { BlocksFit (with_numbers numbers.old.items list.old.items) blocks.old }
-    requires covered { AreCovered list.old.items covers.old }
+    requires covered { AreKept list.old.items covers.old }
     ensures put { with_numbers numbers.new.items list.new.items
         ≡ put_record (with_numbers numbers.old.items list.old.items) made }
     ensures count { length list.new.items ≤ length list.old.items + 1 }
@@ -187,7 +187,7 @@ fn put(
     ensures made { as_made made ≡ made }
     ensures numbers { HaveNumbers numbers.new.items list.new.items }
     ensures fit { BlocksFit (with_numbers numbers.new.items list.new.items) blocks.new }
-    ensures covered { AreCovered list.new.items covers.new }
+    ensures covered { AreKept list.new.items covers.new }
     ensures in_step { (tables : PlainTables) → IsInStep tables (with_numbers numbers.old.items list.old.items)
         → reads_agree tables made ≡ true → IsInStep tables (with_numbers numbers.new.items list.new.items) }
 {
@@ -308,12 +308,12 @@ fn put_at(
     requires numbered { places.old.numbers ≡ map instance_number list.old.items }
     requires number { length list.old.items ≤ place → number ≡ instance_number made }
     requires place { place ≡ position_or_len (same_instance made) list.old.items }
-    requires covered { AreCovered list.old.items covers.old }
+    requires covered { AreKept list.old.items covers.old }
     ensures put { list.new.items ≡ put_record list.old.items made }
     ensures numbered { places.new.numbers ≡ map instance_number list.new.items }
     ensures room { vec_capacity list.new ≡ vec_capacity list.old }
     ensures room_below { places.new.room ≡ places.old.room }
-    ensures covered { AreCovered list.new.items covers.new }
+    ensures covered { AreKept list.new.items covers.new }
 {
     if place < list.len() {
         list[place] = made;

@@ -61,7 +61,7 @@ impl Model for Records {
     ghost use Rattle.record_theory.specs.Record.{PlainRecord, instance_number};
     ghost use Rattle.record_theory.specs.Numbers.{with_numbers, HaveNumbers};
     ghost use Rattle.rerun_records.specs.Blocks.{BlocksFit};
-    ghost use Rattle.rerun_records.specs.Covers.{AreCovered};
+    ghost use Rattle.rerun_records.specs.Covers.{AreKept};
     ghost use Rattle.record_theory.specs.OneTime.{AreOfOneTime};
 
     ghost Value = { List PlainRecord };
@@ -71,7 +71,7 @@ impl Model for Records {
     ghost invariant = { λ r. HaveNumbers r.numbers.items r.list.items
         × BlocksFit (with_numbers r.numbers.items r.list.items) r.blocks
         × (r.places.numbers ≡ map instance_number r.list.items)
-        × AreCovered r.list.items r.covers
+        × AreKept r.list.items r.covers
         × AreOfOneTime r.list.items };
 }
 
@@ -462,6 +462,7 @@ impl Records {
         self.places.reserve(room)?;
         self.numbers.reserve(room)?;
         self.blocks.make_room(records.len());
+        self.covers.make_room(records.len(), self.list.len());
         let near = places_near(&self.list, &self.places, &records);
         put_all(
             &mut self.list,
@@ -475,8 +476,9 @@ impl Records {
         Ok(())
     }
 
-    /// Makes the hulls that records lack by which an edit finds them, as far as memory isn't refused. Only edits ask for them, so records
-    /// are put in without: a run behind which there is no edit doesn't pay for them.
+    /// Makes the hulls that records lack by which an edit finds them, and has the others hold what records have read that took another's
+    /// place, as far as memory isn't refused. Only edits ask for them, so records are put in without: a run behind which there is no edit
+    /// doesn't pay for them, and nobody waits for them behind another.
     pub fn cover(&mut self)
         ensures same { self.new ≡ self.old }
     {
@@ -487,13 +489,14 @@ impl Records {
     /// Tells the records that the row of the table of that number was changed, each given by its number: these readings the tables don't
     /// hold any more, and those they hold again. Before, the records were in step with the tables, which held the first of these readings
     /// and not the second. It goes by the hulls that there are, passes over most of the records that haven't read
-    /// the row, and takes no memory.
+    /// the row, and takes no memory where `cover` was called since records were put in.
     pub fn tell(&mut self, change: &(usize, i64), lost: &[Note], won: &[Note])
         requires rest { every (λ n. not (is_apart (change.now ∷ []) n)) (lost.now ++ won.now) ≡ true }
         ensures told { (before : PlainTables) → IsInStep before self.old → AreBefore before lost.now won.now
             → self.new ≡ map (told_by lost.now won.now) self.old }
         ensures same { map as_made self.new ≡ map as_made self.old }
     {
+        self.covers.settle(&self.list);
         tell(
             &mut self.numbers,
             &mut self.blocks,

@@ -6,7 +6,7 @@ use Rattle.record_theory.specs.Numbers.{with_numbers, HaveNumbers}
 use Rattle.meaning.specs.Tables.{Tables}
 use Rattle.record_theory.specs.InStep.{IsInStep, ReadNow}
 use Rattle.rerun_records.specs.Blocks.{BlocksFit}
-use Rattle.rerun_records.specs.Covers.{AreCovered}
+use Rattle.rerun_records.specs.Covers.{AreKept}
 use Rattle.rerun_records.proofs.listing.put_all.Given as goal
 
 abbrev pub invariant-loop-record : goal.invariant-loop-record
@@ -19,7 +19,7 @@ invariant-loop-record l = record {
   numbered : l.places.numbers ≡ map instance_number l.list.items;
   have_numbers : HaveNumbers l.numbers.items l.list.items;
   fit : BlocksFit (with_numbers l.numbers.items l.list.items) l.blocks;
-  covered : AreCovered l.list.items l.covers;
+  covered : AreKept l.list.items l.covers;
   put : put_records (with_numbers l.numbers.items l.list.items) (into_iter_items l.record-iterator)
       ≡ put_records (with_numbers l.fn.numbers.items l.fn.list.items) l.fn.records.items;
   as_made_are : put_records (map as_made (with_numbers l.numbers.items l.list.items)) (into_iter_items l.record-iterator)

@@ -1,7 +1,7 @@
 use Rattle.std.proofs.Common.{rules, ◌≡◌, ◌∙◌, ◌<◌, ◌≤◌, [], ◌∷◌, length, sym, subst}
-use Rattle.rerun_records.specs.Covers.{AreCovered, AreSameBut}
+use Rattle.rerun_records.specs.Covers.{AreKept, AreSameBut}
 use Rattle.rerun_records.proofs.Covering.{set_same_but}
-use Rattle.rerun_records.proofs.Passing.{appended_covered}
+use Rattle.rerun_records.proofs.Passing.{appended_kept}
 use Rattle.record_theory.specs.Record.{instance_number}
 use Rattle.rerun_records.proofs.Instances.{set_is_put, set_numbers, push_is_put, numbers_behind}
 use Rattle.rerun_records.proofs.listing.put_at.Goals as goal
@@ -23,13 +23,13 @@ returns-else-place-len-clause-put c =
 
 pub returns-then-place-len-clause-covered : goal.returns-then-place-len-clause-covered
 returns-then-place-len-clause-covered c =
-    subst (λ rs. AreCovered rs c.put_in.new.self) c.deref.ensures.value
+    subst (λ rs. AreKept rs c.put_in.new.self) c.deref.ensures.value
     (c.put_in.ensures.held c.args.list.now.items c.requires.covered
     (subst (AreSameBut (c.args.place ∷ []) c.args.list.now.items) (sym c.deref.ensures.value) (set_same_but c.args.list.now.items c.args.place c.args.made)))
 
 pub returns-else-place-len-clause-covered : goal.returns-else-place-len-clause-covered
 returns-else-place-len-clause-covered c =
-    subst (λ rs. AreCovered rs c.args.covers.now) (sym c.push_reserved.ensures.items) (appended_covered c.args.list.now.items (c.args.made ∷ []) c.args.covers.now c.requires.covered)
+    subst (λ rs. AreKept rs c.args.covers.now) (sym c.push_reserved.ensures.items) (appended_kept c.args.list.now.items (c.args.made ∷ []) c.args.covers.now c.requires.covered)
 
 pub returns-else-place-len-clause-numbered : goal.returns-else-place-len-clause-numbered
 returns-else-place-len-clause-numbered c =

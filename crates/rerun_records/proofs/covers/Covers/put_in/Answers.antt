@@ -1,27 +1,25 @@
-use Rattle.std.proofs.Common.{◌≡◌, Some, [], ◌∷◌, subst, sym, ◌∙◌}
-use Rattle.std.specs.Prelude.{slice_get}
-use Rattle.record_theory.specs.Record.{PlainRecord}
-use Rattle.rerun_records.specs.Covers.{PlainCovers, AreCoveredBut}
-use Rattle.rerun_records.proofs.Covering.{there_is}
-use Rattle.rerun_records.proofs.Passing.{covered_but, past_covered}
+use Rattle.std.proofs.Common.{ℕ, List, [], ◌∷◌, ◌++◌, subst, sym}
+use Rattle.rerun_records.specs.Covers.{PlainCovers, PlainLevel, AreCoveredBut, AreLevelsBut}
+use Rattle.rerun_records.specs.Skips.{PassBut}
+use Rattle.rerun_records.proofs.Passing.{noted_late, late_too}
 use Rattle.rerun_records.proofs.covers.Covers.put_in.Goals as goal
 
-pub returns-then-place-list : goal.returns-then-place-list
-returns-then-place-list c = record {
-  held = λ before h same.
-      past_covered c.args.list.now c.args.place [] c.args.self.now c.if-place-list.true (covered_but (c.args.place ∷ []) before c.args.list.now c.args.self.now same h);
-}
-
-pub returns : goal.returns
-returns c =
+pub returns-then-len-capacity : goal.returns-then-len-capacity
+returns-then-len-capacity c =
     let list = c.args.list.now in
     let place = c.args.place in
-    let is : (r : PlainRecord) → slice_get list place ≡ Some r → r.reads ≡ c.reads-reads.result.now =
-    λ r there. there_is list place r c.index-list-place.result there c.index-list-place.is ∙ sym c.reads-reads.ensures.reads in
+    let levels : List PlainLevel =
+    record { width = 32768; hulls = c.self.inside.wide.items } ∷ record { width = 1024; hulls = c.self.inside.middle.items } ∷ record { width = 32; hulls = c.self.inside.narrow.items } ∷ [] in
     record {
       held = λ before h same.
-          let covered = subst (λ (cs : PlainCovers). AreCoveredBut (place ∷ []) list cs) (sym c.self.view_is) (covered_but (place ∷ []) before list c.args.self.now same h) in (
-            (c.put_in.ensures.held list [] covered.0.0 is, (c.put_in-2.ensures.held list [] covered.0.1.0 is, (c.put_in-3.ensures.held list [] covered.0.1.1.0 is, tt))),
-            c.put_in-4.ensures.held list [] covered.1 is,
-          );
+          let noted = subst (λ (cs : PlainCovers). AreCoveredBut (cs.late ++ place ∷ []) list cs) (sym c.self.view_is) (noted_late place before list c.args.self.now same h) in
+          subst (λ (ps : List ℕ). AreLevelsBut ps list levels × PassBut ps list c.self.inside.skips) (sym c.push_reserved.ensures.items) noted;
+    }
+
+pub returns-else-len-capacity : goal.returns-else-len-capacity
+returns-else-len-capacity c =
+    let list = c.args.list.now in
+    record {
+      held = λ before h same.
+          subst (λ (ps : List ℕ). AreCoveredBut ps list c.hold.new.self) (sym c.hold.ensures.same) (c.hold.ensures.held c.args.self.now.late (late_too c.args.place before list c.args.self.now same h));
     }

@@ -2,14 +2,14 @@ use Rattle.std.proofs.Common.{◌≡◌, ◌≤◌, ◌∙◌, List, [], ap, ari
 use Rattle.std.proofs.lemmas.List.Elements.{All-nil}
 use Rattle.meaning.specs.Tables.{Tables}
 use Rattle.record_theory.specs.Commits.{AreSingle, put_records}
-use Rattle.rerun_records.specs.Covers.{AreCovered}
+use Rattle.rerun_records.specs.Covers.{AreKept}
 use Rattle.record_theory.specs.InStep.{IsInStep, ReadNow}
 use Rattle.record_theory.specs.Numbers.{with_numbers}
 use Rattle.record_theory.specs.OneTime.{IsOfOneTime}
 use Rattle.record_theory.specs.Record.{PlainRecord, as_made, instance_number}
 use Rattle.rerun_records.proofs.Leaves.{none_fit}
 use Rattle.rerun_records.proofs.OneTime.{first_once}
-use Rattle.rerun_records.proofs.Passing.{appended_covered}
+use Rattle.rerun_records.proofs.Passing.{appended_kept}
 use Rattle.rerun_records.proofs.WithNumbers.{none_counted, none_in_view, first_put, zeros_numbers, zeros_view}
 use Rattle.rerun_records.proofs.records.Records.take_whole.Goals as goal
 
@@ -48,8 +48,8 @@ invariant_of-self-2 c =
           (subst AreSingle (sym same) c.keep_last.ensures.single),
       none_fit (with_numbers numbers list) c.begin_anew.new.self none.0 none.1 none.2 none.3,
       c.keep_last.ensures.numbered ∙ ap (map instance_number) (sym same),
-      appended_covered [] list c.self.inside.covers
-          (subst (λ (rs : List PlainRecord). AreCovered rs c.self.inside.covers)
+      appended_kept [] list c.self.inside.covers
+          (subst (λ (rs : List PlainRecord). AreKept rs c.self.inside.covers)
           (none_in_view c.self.inside.numbers.items c.self.inside.list.items c.args.self.now c.self.view_is c.requires.none) c.self.invariant.3),
       first_once numbers list c.args.records.items (view ∙ same ∙ c.keep_last.ensures.put ∙ ap (put_records []) c.reserve.ensures.items) (All-nil (λ (r : PlainRecord). IsOfOneTime r.reads)) c.requires.once,
     )
