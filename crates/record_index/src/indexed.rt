@@ -142,12 +142,15 @@ impl IndexedRecords {
         self.records.cover();
     }
 
-    /// Makes blocks of the records, as `gathered_records` does, and the hulls by which edits find them.
+    /// Makes blocks of the records, as `gathered_records` does, and the hulls by which edits find them, and lets go of records that others have
+    /// replaced.
     pub fn gather(&mut self, alloc: Global, program: &Checked)
         requires monoids { All IsMonoid program.now.kinds }
         requires values { HaveValues program.now.kinds self.old.records }
         ensures same { self.new ≡ self.old }
     {
+        // First of all: what is let go then serves what is made behind it.
+        self.records.let_go();
         gather(&mut self.records, alloc, program);
         self.records.cover();
     }

@@ -17,6 +17,10 @@ use instance_records::record::Record;
 use place_chains::mixing::number_of;
 use place_chains::places::Places;
 use record_numbers::stale::{clear, is_fresh};
+use std::mem;
+
+/// So many records that others have replaced are kept at most.
+const MOST_REPLACED: usize = 256;
 
 /// The record at that place.
 pub(crate) fn record_at(list: &[Record], place: usize) -> Option<&Record>
@@ -60,10 +64,10 @@ pub(crate) fn found_in<'a>(
     None
 }
 
-/// The places of the records of the same procedures and arguments as these: of the first of them, up to one of which there is none, or for which
-/// memory is refused. Each is looked for first as far from the one before it as the sums of their arguments are apart. They are looked up
-/// before any is put in, in a loop that does nothing else: so several are fetched from memory at the same time.
-pub(crate) fn places_near(list: &[Record], places: &Places, records: &Vec<Record>) -> Vec<usize>
+// The places of the records of the same procedures and arguments as these: of the first of them, up to one of which there is none, or for which
+// memory is refused. Each is looked for first as far from the one before it as the sums of their arguments are apart. They are looked up
+// before any is put in, in a loop that does nothing else: so several are fetched from memory at the same time.
+fn places_near(list: &[Record], places: &Places, records: &Vec<Record>) -> Vec<usize>
     requires numbered { places.now.numbers ≡ map instance_number list.now }
 {
     let mut found = Vec::new(*records.allocator());
@@ -122,15 +126,30 @@ fn near_at(near: &[usize], number: usize) -> usize {
     }
 }
 
-/// Puts records in, for which there is room. Each is looked for at the place that is given for it first.
+/// Lets go of the records that others have replaced, and makes room for so many more of them, as far as memory isn't refused.
+pub(crate) fn make_way(replaced: &mut Vec<Record>, count: usize) {
+    replaced.clear();
+    let _ = replaced.reserve(count.min(MOST_REPLACED));
+}
+
+/// Lets go of the records that others have replaced with their list, and makes one with as much room, if memory isn't refused. Where that takes
+/// a kilobyte, the allocator puts together what was let go, for which the next run's first allocation of such a size would have to wait.
+pub(crate) fn renew(replaced: &mut Vec<Record>) {
+    let alloc = *replaced.allocator();
+    let room = replaced.capacity();
+    *replaced = Vec::new(alloc);
+    let _ = replaced.reserve(room);
+}
+
+/// Puts records in, for which there is room. Those that they replace are kept, as far as there is room for them.
 pub(crate) fn put_all(
     list: &mut Vec<Record>,
     places: &mut Places,
     numbers: &mut Vec<u32>,
     blocks: &mut Blocks,
     covers: &mut Covers,
-    near: &[usize],
     records: Vec<Record>,
+    replaced: &mut Vec<Record>,
 )
     requires room { length list.old.items + length records.items ≤ vec_capacity list.old }
     requires room_below { length list.old.items + length records.items ≤ places.old.room }
@@ -151,15 +170,32 @@ pub(crate) fn put_all(
     ensures in_step { (tables : PlainTables) → IsInStep tables (with_numbers numbers.old.items list.old.items)
         → ReadNow tables records.items → IsInStep tables (with_numbers numbers.new.items list.new.items) }
 {
+    let near = places_near(list, places, &records);
     let mut count: usize = 0;
     for record in records {
-        let place = near_at(near, count);
-        put(list, places, numbers, blocks, covers, place, record);
+        let place = near_at(&near, count);
+        let old = put(list, places, numbers, blocks, covers, place, record);
+        keep(replaced, old);
         count = count.wrapping_add(1);
     }
 }
 
-// Puts a record in, for which there is room, and which may have the near place.
+// Keeps a record that was replaced, if there was one, where there is room for it and to let it go takes long: what it has read has memory of
+// its own.
+#[inline(always)]
+fn keep(replaced: &mut Vec<Record>, old: Option<Record>) {
+    match old {
+        Some(old) => {
+            if replaced.len() < replaced.capacity() && !old.reads().is_pair() {
+                let _ = replaced.push(old);
+            }
+        }
+        None => {}
+    }
+}
+
+// Puts a record in, for which there is room, and which may have the near place; the one that it replaces is handed out.
+#[inline(always)]
 fn put(
     list: &mut Vec<Record>,
     places: &mut Places,
@@ -168,7 +204,7 @@ fn put(
     covers: &mut Covers,
     near: usize,
     made: Record,
-)
+) -> Option<Record>
     requires room { length list.old.items < vec_capacity list.old }
     requires room_below { length list.old.items < places.old.room }
     requires place { length numbers.old.items < vec_capacity numbers.old }
@@ -194,8 +230,9 @@ fn put(
     made.as_made();
     let (number, place) = place_near(list, places, near, &made);
     free(blocks, list, numbers, place);
-    put_at(list, places, covers, number, place, made);
+    let old = put_at(list, places, covers, number, place, made);
     clear(numbers, place);
+    old
 }
 
 // Notes that the record at that place is due, and drops the blocks that have it as part. Of which something is counted it is part of none.
@@ -294,7 +331,8 @@ pub(crate) fn place_for(list: &[Record], places: &Places, number: u32, made: &Re
     }
 }
 
-// Puts a record at its place, or behind the others under that number, for which there is room.
+// Puts a record at its place, or behind the others under that number, for which there is room; the one that it replaces is handed out.
+#[inline(always)]
 fn put_at(
     list: &mut Vec<Record>,
     places: &mut Places,
@@ -302,7 +340,7 @@ fn put_at(
     number: u32,
     place: usize,
     made: Record,
-)
+) -> Option<Record>
     requires room { length list.old.items < vec_capacity list.old }
     requires room_below { length list.old.items < places.old.room }
     requires numbered { places.old.numbers ≡ map instance_number list.old.items }
@@ -316,10 +354,11 @@ fn put_at(
     ensures covered { AreKept list.new.items covers.new }
 {
     if place < list.len() {
-        list[place] = made;
+        let old = mem::replace(&mut list[place], made);
         covers.put_in(list, place);
-    } else {
-        list.push_reserved(made);
-        places.push(number);
+        return Some(old);
     }
+    list.push_reserved(made);
+    places.push(number);
+    None
 }

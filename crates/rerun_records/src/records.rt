@@ -23,7 +23,7 @@ use crate::block::Block;
 use crate::blocks::{Blocks, Width};
 use crate::covers::Covers;
 use crate::keeping::keep_last;
-use crate::listing::{found_in, is_of, places_near, put_all, record_at};
+use crate::listing::{found_in, is_of, make_way, put_all, record_at, renew};
 use crate::series::Series;
 use crate::telling::tell;
 use evaluation::note::Note;
@@ -54,6 +54,8 @@ pub struct Records {
     blocks: Blocks,
     // By which an edit finds the records that may have read its row.
     covers: Covers,
+    // Some of the records that others have replaced, until there is time to let them go.
+    replaced: Vec<Record>,
 }
 
 impl Model for Records {
@@ -86,6 +88,7 @@ impl Records {
             numbers: Vec::new(alloc),
             blocks: Blocks::new(alloc),
             covers: Covers::new(alloc),
+            replaced: Vec::new(alloc),
         }
     }
 
@@ -463,17 +466,25 @@ impl Records {
         self.numbers.reserve(room)?;
         self.blocks.make_room(records.len());
         self.covers.make_room(records.len(), self.list.len());
-        let near = places_near(&self.list, &self.places, &records);
+        make_way(&mut self.replaced, records.len());
         put_all(
             &mut self.list,
             &mut self.places,
             &mut self.numbers,
             &mut self.blocks,
             &mut self.covers,
-            &near,
             records,
+            &mut self.replaced,
         );
         Ok(())
+    }
+
+    /// Lets go of the records that others have replaced. What they have read lies in memory that was used long ago, so that takes long, and
+    /// who waits for an answer needn't wait for it.
+    pub fn let_go(&mut self)
+        ensures same { self.new ≡ self.old }
+    {
+        renew(&mut self.replaced);
     }
 
     /// Makes the hulls that records lack by which an edit finds them, and has the others hold what records have read that took another's

@@ -1,23 +1,26 @@
-use Rattle.std.proofs.Common.{rules, ◌≡◌, ◌∙◌, ◌<◌, ◌≤◌, [], ◌∷◌, length, sym, subst}
+use Rattle.std.proofs.Common.{rules, ◌≡◌, ◌∙◌, ◌<◌, ◌≤◌, [], ◌∷◌, length, map, ap, sym, subst}
+use Rattle.std.specs.Prelude.{slice_set}
+use Rattle.record_theory.specs.Record.{PlainRecord, instance_number}
 use Rattle.rerun_records.specs.Covers.{AreKept, AreSameBut}
 use Rattle.rerun_records.proofs.Covering.{set_same_but}
 use Rattle.rerun_records.proofs.Passing.{appended_kept}
-use Rattle.record_theory.specs.Record.{instance_number}
 use Rattle.rerun_records.proofs.Instances.{set_is_put, set_numbers, push_is_put, numbers_behind}
 use Rattle.rerun_records.proofs.listing.put_at.Goals as goal
 
 pub returns-then-place-len-clause-put : goal.returns-then-place-len-clause-put
 returns-then-place-len-clause-put c =
     let within : c.args.place < length c.args.list.now.items = search rules in
-    set_is_put c.args.list.now.items c.args.made c.args.place c.requires.place within
+    ap (slice_set c.args.list.now.items c.args.place) c.replace-old.ensures.after ∙ set_is_put c.args.list.now.items c.args.made c.args.place c.requires.place within
 
 pub returns-then-place-len-clause-numbered : goal.returns-then-place-len-clause-numbered
 returns-then-place-len-clause-numbered c =
     let within : c.args.place < length c.args.list.now.items = search rules in
-    c.requires.numbered ∙ sym (set_numbers c.args.list.now.items c.args.made c.args.place c.requires.place within)
+    c.requires.numbered
+    ∙ sym (set_numbers c.args.list.now.items c.args.made c.args.place c.requires.place within)
+    ∙ ap (λ (r : PlainRecord). map instance_number (slice_set c.args.list.now.items c.args.place r)) (sym c.replace-old.ensures.after)
 
-pub returns-else-place-len-clause-put : goal.returns-else-place-len-clause-put
-returns-else-place-len-clause-put c =
+pub returns-clause-put : goal.returns-clause-put
+returns-clause-put c =
     let behind : length c.args.list.now.items ≤ c.args.place = search rules in
     c.push_reserved.ensures.items ∙ push_is_put c.args.list.now.items c.args.made c.args.place c.requires.place behind
 
@@ -25,14 +28,16 @@ pub returns-then-place-len-clause-covered : goal.returns-then-place-len-clause-c
 returns-then-place-len-clause-covered c =
     subst (λ rs. AreKept rs c.put_in.new.self) c.deref.ensures.value
     (c.put_in.ensures.held c.args.list.now.items c.requires.covered
-    (subst (AreSameBut (c.args.place ∷ []) c.args.list.now.items) (sym c.deref.ensures.value) (set_same_but c.args.list.now.items c.args.place c.args.made)))
+    (subst (AreSameBut (c.args.place ∷ []) c.args.list.now.items) (sym c.deref.ensures.value)
+    (subst (λ (r : PlainRecord). AreSameBut (c.args.place ∷ []) c.args.list.now.items (slice_set c.args.list.now.items c.args.place r)) (sym c.replace-old.ensures.after)
+    (set_same_but c.args.list.now.items c.args.place c.args.made))))
 
-pub returns-else-place-len-clause-covered : goal.returns-else-place-len-clause-covered
-returns-else-place-len-clause-covered c =
+pub returns-clause-covered : goal.returns-clause-covered
+returns-clause-covered c =
     subst (λ rs. AreKept rs c.args.covers.now) (sym c.push_reserved.ensures.items) (appended_kept c.args.list.now.items (c.args.made ∷ []) c.args.covers.now c.requires.covered)
 
-pub returns-else-place-len-clause-numbered : goal.returns-else-place-len-clause-numbered
-returns-else-place-len-clause-numbered c =
+pub returns-clause-numbered : goal.returns-clause-numbered
+returns-clause-numbered c =
     let behind : length c.args.list.now.items ≤ c.args.place = search rules in
     let number : c.args.number ≡ instance_number c.args.made = c.requires.number behind in
     c.push.ensures.pushed ∙ numbers_behind c.args.list.now.items c.push_reserved.new.self.items c.args.made c.args.places.now.numbers c.args.number c.requires.numbered number c.push_reserved.ensures.items
