@@ -1,5 +1,5 @@
 -- What holds and has the cells of a row has those that hold as they are, and none that doesn't hold.
-use Rattle.std.proofs.Common.{◌≡◌, ◌≤◌, ◌<◌, ◌+◌, ℕ, zero, suc, ℤ, Bool, true, false, true≢false, cond, not, List, [], ◌∷◌, length, drop, get_or, pos, refl, sym, ap, ◌∙◌, subst, arith}
+use Rattle.std.proofs.Common.{◌≡◌, ◌≤◌, ◌<◌, ◌+◌, ℕ, zero, suc, ℤ, Bool, true, false, true≢false, cond, not, List, [], ◌∷◌, length, drop, get_or, refl, sym, ap, ◌∙◌, subst, arith}
 use Rattle.std.proofs.lemmas.List.{drop_more, drop_all}
 use Rattle.std.specs.Prelude.{◌&&◌, ◌||◌, nat_eq}
 use Rattle.std.specs.Ordering.{int_eq}
@@ -19,7 +19,7 @@ use Rattle.record_theory.proofs.Same.{number_is, integer_is}
 use Rattle.rerun_records.specs.Line.{TellsOfOne, IsLine}
 use Rattle.rerun_records.specs.Settled.{HasNoSums}
 use Rattle.rerun_records.proofs.OneTime.{held, read_passes}
-use Rattle.rerun_records.proofs.Settled.{one_counted, still_few}
+use Rattle.rerun_records.proofs.Settled.{one_counted}
 
 on_left : (a b : Bool) → a ≡ true → a || b ≡ true
 on_left a b e = ap (λ x. x || b) e
