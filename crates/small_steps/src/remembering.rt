@@ -16,7 +16,7 @@ use linked_program::code::Expression;
 use meaning::FaultKind;
 use meaning::tree::Way;
 use positions::phase::Phase;
-use positions::work::Work;
+use positions::work::{Position, Work};
 use std::alloc::{AllocError, Global};
 use std::mem;
 use view_pool::{Kit, KitSource, View};
@@ -157,8 +157,9 @@ impl<V: View> Machine<V> {
     {
         let room = self.spares.slots(alloc);
         let slots = slots_with(room, setting.program.slots(entrance.callee), numbers)?;
+        let places = self.spares.places(alloc);
         mem::swap(&mut self.arguments, numbers);
-        match self.nest_remembered(alloc, setting, entrance, slots, kits) {
+        match self.nest_remembered(alloc, setting, entrance, slots, places, kits) {
             Ok(()) => Ok(()),
             Err(AllocError) => {
                 mem::swap(&mut self.arguments, numbers);
@@ -167,7 +168,7 @@ impl<V: View> Machine<V> {
         }
     }
 
-    /// Enters an instance of a memo procedure, whose arguments are kept, with those slots; or too deep.
+    /// Enters an instance of a memo procedure, whose arguments are kept, with those slots and that empty list for places; or too deep.
     #[inline(always)]
     fn nest_remembered<K: KitSource<Kit<V>>>(
         &mut self,
@@ -175,8 +176,10 @@ impl<V: View> Machine<V> {
         setting: Setting<'_>,
         entrance: Entrance,
         slots: Vec<Slot>,
+        places: Vec<Position>,
         kits: &mut K,
     ) -> Result<(), AllocError>
+        requires empty { places.items ≡ [] }
         requires fits { WorkFits entrance.work }
         requires running { self.old.phase ≡ Phase.Running }
         requires memo { memo_of setting.program.now.codes entrance.callee ≡ true }
@@ -192,7 +195,6 @@ impl<V: View> Machine<V> {
             self.fault(entrance.statement, FaultKind::TooDeep);
             return Ok(());
         }
-        let places = Vec::new(alloc);
         let child = Activation::new(entrance.callee, slots, places, Work::Block(FIRST), left - 1);
         match entrance.way {
             Way::Call => self.call_memo(alloc, setting, child, entrance, kits),
