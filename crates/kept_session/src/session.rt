@@ -29,6 +29,9 @@ use std::marker::Model;
 use std::mem;
 use view_pool::{Kit, Pool, View};
 
+/// How many runs work with the same lists.
+const LENDINGS: usize = 64;
+
 /// A checked program with its tables, its kits and its records, which edits and runs change.
 #[derive(Drop)]
 pub struct Session<V: View = Box<dyn View>> {
@@ -39,8 +42,9 @@ pub struct Session<V: View = Box<dyn View>> {
     pub(crate) inlined: usize,
     // When blocks are made of the records that runs leave.
     blocks: Blocks,
-    // What the first worker of a run works with, so that the one of the next run needs no new lists.
+    // What the first worker of a run works with, so that the one of the next run needs no new lists, and how many runs have lent it.
     lists: WorkLists,
+    lent: usize,
 }
 
 impl<V: View> Model for Session<V> {
@@ -87,6 +91,7 @@ impl<V: View> Session<V> {
             inlined: 0,
             blocks: Blocks::AtOnce,
             lists: WorkLists::new(alloc),
+            lent: 0,
         })
     }
 
@@ -210,11 +215,18 @@ impl<V: View> Session<V> {
         mem::replace(&mut self.kits, Pool::new(Vec::new(alloc)))
     }
 
-    /// Takes out the lists that a run's first worker works with, and leaves new ones, which take no memory.
+    /// Takes out the lists that a run's first worker works with, and leaves new ones, which take no memory. After so many runs they are let
+    /// go: what is left there beyond what a run took stays small.
     pub fn take_lists(&mut self, alloc: Global) -> WorkLists
         ensures same { self.new ≡ self.old }
     {
-        mem::replace(&mut self.lists, WorkLists::new(alloc))
+        let lists = mem::replace(&mut self.lists, WorkLists::new(alloc));
+        if self.lent < LENDINGS {
+            self.lent += 1;
+            return lists;
+        }
+        self.lent = 0;
+        WorkLists::new(alloc)
     }
 
     /// Keeps such lists for the next run.
