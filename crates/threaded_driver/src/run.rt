@@ -394,7 +394,10 @@ where
     R: Threads + Wait + Sync,
     G: Gate,
 {
-    let life = |seat: Seat<J, D>| -> Seat<J, D> { work(rt, floor, seat, gate) };
+    // A seat ends where its worker has left it: a thread that handed it back would have to send it.
+    let life = |seat: Seat<J, D>| {
+        let _ = work(rt, floor, seat, gate);
+    };
     let _ = thread::map_vec(rt, seats, &life);
 }
 
