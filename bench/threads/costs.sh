@@ -1,9 +1,9 @@
 #!/usr/bin/env bash
 # Prints what a spawn and a steal cost, in instructions (callgrind): a spawn that isn't stolen, with its sync, beyond a call in its place;
 # and a steal with its fold, by runs with 2 and 4 workers of so many more pairs of instances that the steals differ, beyond the same runs
-# with one worker. The second holds what a worker does to find something to steal. Below it stands what a steal takes in the functions
-# that begin a stolen strand, and a fold in those that fold a pair, each with what it calls: those that the compiler hasn't put into
-# their callers. Takes valgrind.
+# with one worker, the middle of three rounds. The second holds what a worker does to find something to steal; in some rounds it waits long
+# for the other thread, which these are for. Below it stands what a steal takes in the functions that begin a stolen strand, and a fold in
+# those that fold a pair, each with what it calls: those that the compiler hasn't put into their callers. Takes valgrind.
 #
 # usage: costs.sh [PROGRAM]      by default ./cilkreport as it is built
 set -eu
@@ -54,14 +54,19 @@ echo "a spawn that isn't stolen, with its sync: $(((all - called) / spawned)) in
 read -r _ _ few_alone < <(counts pairs$few 1)
 read -r _ _ many_alone < <(counts pairs$many 1)
 for workers in 2 4; do
-    read -r few_steals _ few_all < <(counts pairs$few $workers)
-    read -r many_steals many_folds many_all < <(counts pairs$many $workers)
-    more=$((many_all - many_alone - few_all + few_alone))
-    steals=$((many_steals - few_steals))
-    if [ $steals = 0 ]; then
-        echo "$workers workers: nothing was stolen"
+    for round in 1 2 3; do
+        read -r few_steals _ few_all < <(counts pairs$few $workers)
+        read -r many_steals many_folds many_all < <(counts pairs$many $workers)
+        more=$((many_all - many_alone - few_all + few_alone))
+        steals=$((many_steals - few_steals))
+        if [ $steals -gt 0 ]; then echo "$((more / steals)) $steals"; fi
+    done | sort -n > "$room/rounds"
+    read -r each steals < <(sed -n 2p "$room/rounds") || each=
+    if [ -z "$each" ]; then
+        echo "$workers workers: too little was stolen"
     else
-        echo "a steal with its fold, by $workers workers: $((more / steals)) instructions, the search for it among them ($steals steals)"
+        echo "a steal with its fold, by $workers workers: $each instructions, the search for it among them ($steals steals)"
+        read -r many_steals many_folds _ < <(counts pairs$many $workers)
         parts "$beginning" "$many_steals" steal
         parts "$folding" "$many_folds" fold
     fi
