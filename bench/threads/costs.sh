@@ -1,9 +1,10 @@
 #!/usr/bin/env bash
 # Prints what a spawn and a steal cost, in instructions (callgrind): a spawn that isn't stolen, with its sync, beyond a call in its place;
 # and a steal with its fold, by runs with 2 and 4 workers of so many more pairs of instances that the steals differ, beyond the same runs
-# with one worker, the middle of three rounds. The second holds what a worker does to find something to steal; in some rounds it waits long
-# for the other thread, which these are for. Below it stands what a steal takes in the functions that begin a stolen strand, and a fold in
-# those that fold a pair, each with what it calls: those that the compiler hasn't put into their callers. Takes valgrind.
+# with one worker. The second holds what a worker does to find something to steal. It is of pairs of several lengths, all together: of one
+# length nearly nothing may be stolen, by how the turns in which valgrind lets the threads run fall on the pairs, and then the search for it
+# is spread over two steals. Below it stands what a steal takes in the functions that begin a stolen strand, and a fold in those that fold
+# a pair, each with what it calls: those that the compiler hasn't put into their callers. Takes valgrind.
 #
 # usage: costs.sh [PROGRAM]      by default ./cilkreport as it is built
 set -eu
@@ -15,6 +16,7 @@ source "$here/../speed/reports.sh"
 fib=24
 spawned=75024 # by fib(24)
 few=2000 many=8000
+lengths='30 43 50'
 # Parts of the names of the functions that begin a stolen strand, and of those that fold a pair.
 beginning='Table::rob|begin_stolen|Book::split|Chronicle::split|Strand::stolen'
 folding='Desk::fold|Book::fold|fold_kept|Pair::join|Strand::join|Strand::lay_bare|Hypermap::fold'
@@ -23,15 +25,17 @@ echo run > "$room/once"
 calls $fib > "$room/calls"
 spawns $fib > "$room/spawns"
 
-# So many times two instances side by side, one of them spawned.
-pairs() {
+# So many times two instances side by side, one of them spawned, each a loop that long.
+pairs() { # how many, how long
     echo 'reducer total : add;'
     echo 'proc one(k) { x = k * 3; }'
-    echo 'proc spin(i) { cilk_for k in 0 .. 40 grain 64 : one(k); update total i; return i; }'
+    echo "proc spin(i) { cilk_for k in 0 .. $2 grain 64 : one(k); update total i; return i; }"
     echo 'proc pair(i) { x = spawn spin(i); y = call spin(i); sync; }'
     echo "proc main() { cilk_for i in 0 .. $1 grain 65536 : pair(i); t = read total; return t; }"
 }
-for count in $few $many; do pairs $count > "$room/pairs$count"; done
+for length in $lengths; do
+    for count in $few $many; do pairs $count "$length" > "$room/pairs$count-$length"; done
+done
 
 # The steals, the folds and the instructions of a run, in the order in which they are told. Its functions are kept.
 counts() { # the report, how many workers
@@ -51,22 +55,23 @@ parts() { # the parts, how many, what they are
 read -r _ _ called < <(counts calls 1)
 read -r _ _ all < <(counts spawns 1)
 echo "a spawn that isn't stolen, with its sync: $(((all - called) / spawned)) instructions more than a call"
-read -r _ _ few_alone < <(counts pairs$few 1)
-read -r _ _ many_alone < <(counts pairs$many 1)
+alone=0
+for length in $lengths; do
+    read -r _ _ few_alone < <(counts "pairs$few-$length" 1)
+    read -r _ _ many_alone < <(counts "pairs$many-$length" 1)
+    alone=$((alone + many_alone - few_alone))
+done
 for workers in 2 4; do
-    for round in 1 2 3; do
-        read -r few_steals _ few_all < <(counts pairs$few $workers)
-        read -r many_steals many_folds many_all < <(counts pairs$many $workers)
-        more=$((many_all - many_alone - few_all + few_alone))
-        steals=$((many_steals - few_steals))
-        if [ $steals -gt 0 ]; then echo "$((more / steals)) $steals"; fi
-    done | sort -n > "$room/rounds"
-    read -r each steals < <(sed -n 2p "$room/rounds") || each=
-    if [ -z "$each" ]; then
-        echo "$workers workers: too little was stolen"
+    more=$((-alone)) steals=0
+    for length in $lengths; do
+        read -r few_steals _ few_all < <(counts "pairs$few-$length" $workers)
+        read -r many_steals many_folds many_all < <(counts "pairs$many-$length" $workers)
+        more=$((more + many_all - few_all)) steals=$((steals + many_steals - few_steals))
+    done
+    if [ $steals -le 0 ]; then
+        echo "$workers workers: nothing was stolen"
     else
-        echo "a steal with its fold, by $workers workers: $each instructions, the search for it among them ($steals steals)"
-        read -r many_steals many_folds _ < <(counts pairs$many $workers)
+        echo "a steal with its fold, by $workers workers: $((more / steals)) instructions, the search for it among them ($steals steals)"
         parts "$beginning" "$many_steals" steal
         parts "$folding" "$many_folds" fold
     fi
