@@ -85,7 +85,11 @@ def make(crate):
         if status or os.path.dirname(crate.rlib) != room:
             shutil.rmtree(made)
             return status or print("the sources were changed meanwhile: once more") or 1
-        os.rename(made, room)
+        # (one that was taken from a gate meanwhile stays: the gate's libraries above stand on it)
+        if os.path.isdir(crate.rlib):
+            shutil.rmtree(made)
+        else:
+            os.rename(made, room)
         return 0
 
 
