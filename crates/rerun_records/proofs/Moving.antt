@@ -1,14 +1,16 @@
 -- A record that is moved to a place among the first ones of a list, or behind them.
-use Rattle.std.proofs.Common.{◌≡◌, inl, inr, ℕ, zero, suc, ◌+◌, ◌<◌, ◌≤◌, List, [], ◌∷◌, ◌++◌, take, drop, map, length, Some, get_or, refl, sym, ap, ◌∙◌, arith}
+use Rattle.std.proofs.Common.{◌≡◌, inl, inr, ℕ, zero, suc, ◌+◌, ◌<◌, ◌≤◌, List, [], ◌∷◌, ◌++◌, take, drop, map, length, Some, get_or, refl, sym, subst, ap, ◌∙◌, arith}
 use Rattle.std.specs.Prelude.{slice_get, slice_set}
 use Rattle.std.specs.List.{position_or_len, SwappedAt}
+use Rattle.std.proofs.Math.Seq.{drop-nil}
 use Rattle.std.proofs.lemmas.Bool.{cases_eq}
 use Rattle.std.proofs.lemmas.List.{length-take-le, set-set, take-set-le, drop-set-lt, take_more_set, drop_more}
 use Rattle.std.proofs.lemmas.Option.{get_or_from_slice_get}
-use Rattle.record_theory.specs.Record.{PlainRecord, same_instance, instance_number}
+use Rattle.record_theory.specs.Record.{PlainRecord, same_instance, instance_number, NoneFrom}
 use Rattle.record_theory.specs.Commits.{put_record}
 use Rattle.rerun_records.proofs.WithNumbers.{place_within}
-use Rattle.rerun_records.proofs.Instances.{set_is_put, push_is_put, set_numbers, pushed_numbers}
+use Rattle.place_chains.specs.Chains.{IsEndOf}
+use Rattle.rerun_records.proofs.Instances.{set_is_put, push_is_put, set_numbers, pushed_numbers, none_behind, none_there, none_place}
 
 -- ---- two places of a list are swapped
 
@@ -99,3 +101,45 @@ pub next_is : (xs ys : List PlainRecord) (next : ℕ) (made : PlainRecord) → s
     → drop next xs ≡ made ∷ drop (next + 1) ys
 next_is xs ys next made there within rest =
     drop_more xs next made within ∙ ap (λ x. x ∷ drop (next + 1) xs) (get_or_from_slice_get xs next made made there) ∙ ap (λ zs. made ∷ zs) (sym rest)
+
+-- numbers of what is left, without the first of it
+numbers_of_rest : (xs : List PlainRecord) (next : ℕ) (ns : List ℕ) → drop next ns ≡ map instance_number (drop next xs) → drop (suc next) ns ≡ map instance_number (drop (suc next) xs)
+numbers_of_rest [] zero [] e = refl
+numbers_of_rest [] zero (n ∷ ns) e = absurd cc
+numbers_of_rest (x ∷ xs) zero [] e = absurd cc
+numbers_of_rest (x ∷ xs) zero (n ∷ ns) e = cc (e)
+numbers_of_rest [] (suc next) [] e = refl
+numbers_of_rest [] (suc next) (n ∷ ns) e = numbers_of_rest [] next ns (e ∙ sym (ap (map instance_number) (drop-nil next))) ∙ ap (map instance_number) (drop-nil (suc next))
+numbers_of_rest (x ∷ xs) (suc next) [] e = sym (drop-nil (suc next)) ∙ numbers_of_rest xs next [] (drop-nil next ∙ e)
+numbers_of_rest (x ∷ xs) (suc next) (n ∷ ns) e = numbers_of_rest xs next ns e
+
+pub numbers_behind : (xs ys : List PlainRecord) (next : ℕ) (ns : List ℕ) → drop (next + 1) ys ≡ drop (next + 1) xs → drop next ns ≡ map instance_number (drop next xs)
+    → drop (next + 1) ns ≡ map instance_number (drop (next + 1) ys)
+numbers_behind xs ys next ns rest e =
+    let one : suc next ≡ next + 1 = omega arith in
+    subst (λ (k : ℕ). drop k ns ≡ map instance_number (drop k xs)) one (numbers_of_rest xs next ns e) ∙ sym (ap (map instance_number) rest)
+
+-- the number that stands where a record stands
+pub number_there_is : (xs : List PlainRecord) (next : ℕ) (ns : List ℕ) (made : PlainRecord) → drop next ns ≡ map instance_number (drop next xs) → slice_get xs next ≡ Some made
+    → get_or ns next 0 ≡ instance_number made
+number_there_is [] next ns made e there = absurd cc
+number_there_is (x ∷ xs) zero [] made e there = absurd cc
+number_there_is (x ∷ xs) zero (m ∷ ns) made e there = (let first : m ≡ instance_number x = cc (e) in first) ∙ ap instance_number (let same : x ≡ made = cc (there) in same)
+number_there_is (x ∷ xs) (suc next) [] made e there = number_there_is xs next [] made (drop-nil next ∙ e) there
+number_there_is (x ∷ xs) (suc next) (m ∷ ns) made e there = number_there_is xs next ns made e there
+
+pub number_within : (xs : List PlainRecord) (next : ℕ) (ns : List ℕ) → next < length xs → drop next ns ≡ map instance_number (drop next xs) → next < length ns
+number_within [] next ns l e = absurd (omega (arith, l))
+number_within (x ∷ xs) zero [] l e = absurd cc
+number_within (x ∷ xs) zero (n ∷ ns) l e = omega arith
+number_within (x ∷ xs) (suc next) [] l e = let low = number_within xs next [] (omega (arith, l)) (drop-nil next ∙ e) in absurd (omega (arith, low))
+number_within (x ∷ xs) (suc next) (n ∷ ns) l e = let low = number_within xs next ns (omega (arith, l)) e in omega (arith, low)
+
+-- where none of those that are kept has its number, a record's place is behind them
+pub none_kept : (xs : List PlainRecord) (kept : ℕ) (ns : List ℕ) (number : ℕ) (made : PlainRecord) (end : ℕ) → kept ≤ length xs → ns ≡ map instance_number (take kept xs) → number ≡ instance_number made
+    → IsEndOf ns (length ns) number end → end ≡ 0 → kept ≡ position_or_len (same_instance made) (take kept xs)
+none_kept xs kept ns number made end low numbered is h none =
+    let few = take kept xs in
+    let past : NoneFrom made.procedure made.arguments few 0 =
+    subst (NoneFrom made.procedure made.arguments few) none (none_behind made.procedure made.arguments few ns number numbered is end h) in
+    sym (length-take-le kept xs low) ∙ none_place few (same_instance made) (none_there made.procedure made.arguments few past)

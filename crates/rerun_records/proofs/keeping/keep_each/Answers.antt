@@ -5,6 +5,7 @@ use Rattle.rerun_records.proofs.keeping.keep_each.Goals as goal
 pub loop-next-init : goal.loop-next-init
 loop-next-init c = record {
   behind = omega arith;
+  numbers = c.requires.numbers;
   end = refl;
   room = c.requires.room;
   numbered = c.requires.no_places;

@@ -8,6 +8,7 @@ use Rattle.rerun_records.proofs.keeping.keep_each.Given as goal
 abbrev pub invariant-loop-next : goal.invariant-loop-next
 invariant-loop-next l = record {
   behind : l.kept ≤ l.next;
+  numbers : drop l.next l.numbers ≡ map instance_number (drop l.next l.list);
   end : l.next-end ≡ length l.list;
   room : length l.list ≤ l.places.room;
   numbered : l.places.numbers ≡ map instance_number (take l.kept l.list);

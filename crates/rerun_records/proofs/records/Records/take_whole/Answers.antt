@@ -30,7 +30,7 @@ returns-clause-put c =
     let same = c.give_back.ensures.same in
     let made = subst (λ (rs : List PlainRecord). map as_made rs ≡ rs) (sym same) c.keep_last.ensures.as_made in
     let given = c.reserve.ensures.items in
-    first_put c.cut.new.numbers.items c.put_zeros.new.numbers.items (length c.deref-2.result.now) (length c.deref.result.now) list c.cut.ensures.cut c.in_ok-put_zeros.ensures.zeros (ap length c.deref-2.ensures.value) made
+    first_put c.cut.new.numbers.items c.put_zeros.new.numbers.items (length c.deref-4.result.now) (length c.deref-2.result.now) list c.cut.ensures.cut c.in_ok-put_zeros.ensures.zeros (ap length c.deref-4.ensures.value) made
     c.args.self.now c.args.records.items c.requires.none (same ∙ c.keep_last.ensures.put ∙ ap (put_records []) given)
     (λ (tables : Tables) read. subst (IsInStep tables) (sym same) (c.keep_last.ensures.in_step tables (subst (ReadNow tables) (sym given) read)))
 
@@ -40,11 +40,11 @@ invariant_of-self-2 c =
     let same = c.give_back.ensures.same in
     let numbers = c.cut.new.numbers.items in
     let made = subst (λ (rs : List PlainRecord). map as_made rs ≡ rs) (sym same) c.keep_last.ensures.as_made in
-    let few : length list ≤ length c.deref.result.now =
-    (let fewer = c.keep_last.ensures.fewer in let before = ap length c.deref.ensures.value in let after = ap length same in omega (arith, fewer, before, after)) in
+    let few : length list ≤ length c.deref-2.result.now =
+    (let fewer = c.keep_last.ensures.fewer in let before = ap length c.deref-2.ensures.value in let after = ap length same in omega (arith, fewer, before, after)) in
     let none = c.begin_anew.ensures.none in
-    let view = zeros_view numbers c.put_zeros.new.numbers.items (length c.deref-2.result.now) (length c.deref.result.now) list c.cut.ensures.cut c.in_ok-put_zeros.ensures.zeros (ap length c.deref-2.ensures.value) made in (
-      zeros_numbers numbers c.put_zeros.new.numbers.items (length c.deref-2.result.now) (length c.deref.result.now) list c.cut.ensures.cut c.in_ok-put_zeros.ensures.zeros (ap length c.deref-2.ensures.value) made few
+    let view = zeros_view numbers c.put_zeros.new.numbers.items (length c.deref-4.result.now) (length c.deref-2.result.now) list c.cut.ensures.cut c.in_ok-put_zeros.ensures.zeros (ap length c.deref-4.ensures.value) made in (
+      zeros_numbers numbers c.put_zeros.new.numbers.items (length c.deref-4.result.now) (length c.deref-2.result.now) list c.cut.ensures.cut c.in_ok-put_zeros.ensures.zeros (ap length c.deref-4.ensures.value) made few
           (subst AreSingle (sym same) c.keep_last.ensures.single),
       none_fit (with_numbers numbers list) c.begin_anew.new.self none.0 none.1 none.2 none.3,
       c.keep_last.ensures.numbered ∙ ap (map instance_number) (sym same),
