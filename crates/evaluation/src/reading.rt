@@ -68,6 +68,7 @@ fn short_row(row: i64) -> Option<u32>
 
 impl Reading {
     /// The note in fewer bytes; none where the number of a table, a column or a cell's row is too large, which no program's is.
+    #[inline(always)]
     pub fn new(note: &Note) -> Option<Reading>
         ensures made { IfSome result (λ r. note_of r ≡ note.now) }
         ensures there { is_some result ≡ is_short note.now }

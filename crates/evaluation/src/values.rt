@@ -36,6 +36,7 @@ pub fn value(
 }
 
 // The value of an expression that may read something, or its fault.
+#[inline(always)]
 fn noted_value(
     expression: &Expression,
     slots: &[Slot],
