@@ -109,6 +109,7 @@ impl<V: View> Hypermap<V> {
     /// reducers that are worth these.
     ///
     /// Where memory is refused, some reducers have moved to the left and the others have not.
+    #[inline(always)]
     pub fn fold_two(
         &mut self,
         right: &mut Hypermap<V>,
