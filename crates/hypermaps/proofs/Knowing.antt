@@ -76,3 +76,18 @@ both_back (x ∷ y ∷ []) ws vs us a b c d l e f g h k =
 -- the second of two values is there still once the first has moved
 pub second_there : (ws vs : List Worth) (a b w : Worth) → ws ≡ a ∷ b ∷ [] → vs ≡ set ws 0 w → b ≡ get_or vs 1 b
 second_there ws vs a b w e h = ap (λ zs. get_or zs 1 b) (sym (h ∙ ap (λ zs. set zs 0 w) e))
+
+-- ---- one reducer alone
+
+pub alone_within : {X : Type 0} (worth : X → Worth) (xs : List X) (a : Worth) → map worth xs ≡ a ∷ [] → 0 < length xs
+alone_within worth xs a e = (let one : length xs ≡ 1 = sym (length-map xs worth) ∙ ap length e in omega (arith, one))
+
+pub alone_there : (ws : List Worth) (a : Worth) → ws ≡ a ∷ [] → a ≡ get_or ws 0 a
+alone_there ws a e = ap (λ zs. get_or zs 0 a) (sym e)
+
+-- it is back at its identity
+pub alone_back : (cs : List Kind) (ws us : List Worth) (a : Worth) (c : Kind) → length cs ≡ length ws → ws ≡ a ∷ [] → c ≡ get_or cs 0 c
+    → us ≡ set ws 0 (identity_of c) → us ≡ identities cs
+alone_back [] ws us a c l e f h = (let none : 0 ≡ 1 = l ∙ ap length e in absurd (omega (arith, none)))
+alone_back (x ∷ y ∷ cs) ws us a c l e f h = (let more : suc (suc (length cs)) ≡ 1 = l ∙ ap length e in absurd (omega (arith, more)))
+alone_back (x ∷ []) ws us a c l e f h = h ∙ ap (λ zs. set zs 0 (identity_of c)) e ∙ ap (λ j. identity_of j ∷ []) f

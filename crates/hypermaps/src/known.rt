@@ -95,6 +95,31 @@ fn fold_both<V: View>(
     fold_known_at(left, left_used, right, 1, second)
 }
 
+/// The same of a right side with one reducer, which is worth that.
+#[inline(always)]
+fn fold_alone<V: View>(
+    left: &mut Vec<V>,
+    left_used: &mut Vec<usize>,
+    right: &mut Vec<V>,
+    value: ShortValue,
+) -> bool
+    requires kinds { map V.kind_of left.old.items ≡ map V.kind_of right.old.items }
+    requires left_layer { IsLayer (map V.kind_of left.old.items) (map V.worth_of left.old.items) left_used.old.items }
+    requires right_values { AreWorths (map V.kind_of right.old.items) (map V.worth_of right.old.items) }
+    requires monoids { All IsMonoid (map V.kind_of left.old.items) }
+    requires known { map V.worth_of right.old.items ≡ meaning (value_in value) ∷ [] }
+    ensures left_kinds { map V.kind_of left.new.items ≡ map V.kind_of left.old.items }
+    ensures right_kinds { map V.kind_of right.new.items ≡ map V.kind_of right.old.items }
+    ensures left_layer { IsLayer (map V.kind_of left.new.items) (map V.worth_of left.new.items) left_used.new.items }
+    ensures right_layer { (used : List ℕ) → IsLayer (map V.kind_of right.old.items) (map V.worth_of right.old.items) used
+        → IsLayer (map V.kind_of right.new.items) (map V.worth_of right.new.items) used }
+    ensures product { operate_all (map V.kind_of left.old.items) (map V.worth_of left.new.items) (map V.worth_of right.new.items)
+        ≡ operate_all (map V.kind_of left.old.items) (map V.worth_of left.old.items) (map V.worth_of right.old.items) }
+    ensures emptied { result ≡ true → map V.worth_of right.new.items ≡ identities (map V.kind_of right.old.items) }
+{
+    fold_known_at(left, left_used, right, 0, value)
+}
+
 impl<V: View> Hypermap<V> {
     /// The value of one reducer, where it is short.
     #[inline(always)]
@@ -134,6 +159,25 @@ impl<V: View> Hypermap<V> {
             first,
             second,
         ) {
+            return Ok(());
+        }
+        self.fold(right)
+    }
+
+    /// The same where `right` has one reducer, which is worth that.
+    pub fn fold_one(&mut self, right: &mut Hypermap<V>, value: ShortValue) -> Result<(), AllocError>
+        requires kinds { self.old.kinds ≡ right.old.kinds }
+        requires monoids { All IsMonoid self.old.kinds }
+        requires known { right.old.worths ≡ meaning (value_in value) ∷ [] }
+        ensures left_kinds { self.new.kinds ≡ self.old.kinds }
+        ensures right_kinds { right.new.kinds ≡ right.old.kinds }
+        ensures product { operate_all self.old.kinds self.new.worths right.new.worths
+            ≡ operate_all self.old.kinds self.old.worths right.old.worths }
+        ensures folded { OnOk result (self.new.worths
+            ≡ operate_all self.old.kinds self.old.worths right.old.worths) }
+        ensures emptied { OnOk result (right.new.worths ≡ identities self.old.kinds) }
+    {
+        if fold_alone(&mut self.views, &mut self.used, &mut right.views, value) {
             return Ok(());
         }
         self.fold(right)

@@ -44,6 +44,15 @@ two_items (x ∷ y ∷ []) v w n e f = ap (λ a. a ∷ y ∷ []) (sym e) ∙ ap 
 pub two_worths : (ks : List Kind) (ws : List Worth) (v w : Worth) → length ks ≡ 2 → AreWorths ks ws → v ≡ get_or ws 0 v → w ≡ get_or ws 1 w → ws ≡ v ∷ w ∷ []
 two_worths ks ws v w n a = two_items ws v w (sym (each ks ws a) ∙ n)
 
+-- the value of one reducer is that
+one_item : (ws : List Worth) (v : Worth) → length ws ≡ 1 → v ≡ get_or ws 0 v → ws ≡ v ∷ []
+one_item [] v n e = absurd (omega (arith, n))
+one_item (x ∷ y ∷ ws) v n e = absurd (omega (arith, n))
+one_item (x ∷ []) v n e = ap (λ a. a ∷ []) (sym e)
+
+pub one_worth : (ks : List Kind) (ws : List Worth) (v : Worth) → length ks ≡ 1 → AreWorths ks ws → v ≡ get_or ws 0 v → ws ≡ v ∷ []
+one_worth ks ws v n a = one_item ws v (sym (each ks ws a) ∙ n)
+
 -- what is kept of one reducer's value, then of the other's
 pub both_kept : (first second all : List Gift) {xs ys : List (ℕ × Worth)} → all ≡ first ++ second → map touched (map given_by first) ≡ xs → map touched (map given_by second) ≡ ys
     → map touched (map given_by all) ≡ xs ++ ys

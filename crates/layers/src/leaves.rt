@@ -135,7 +135,7 @@ impl<V: View> Layer<V> {
 
 /// Puts no more than two readings behind those that a layer shares, for which there is room, if it keeps any.
 #[inline(always)]
-fn push_few(keeps: bool, shared: &mut Vec<Readings>, found: &[Reading])
+pub(crate) fn push_few(keeps: bool, shared: &mut Vec<Readings>, found: &[Reading])
     requires room { vec_len shared.old < vec_capacity shared.old }
     requires few { length found.now ≤ 2 }
     ensures pushed { all_of shared.new.items
@@ -200,7 +200,7 @@ fn are_touched<V: View>(
 
 /// Whether a value is its kind's identity.
 #[inline(always)]
-fn is_untouched(kind: &Kind, value: ShortValue) -> bool
+pub(crate) fn is_untouched(kind: &Kind, value: ShortValue) -> bool
     ensures same { result ≡ same_worth (meaning (value_in value)) (identity_of kind.now) }
 {
     let value = value.value();
@@ -211,7 +211,7 @@ fn is_untouched(kind: &Kind, value: ShortValue) -> bool
 
 /// What a reducer was given, as a record keeps it. It takes no memory.
 #[inline(always)]
-fn gift_of(reducer: u16, value: ShortValue) -> Gift
+pub(crate) fn gift_of(reducer: u16, value: ShortValue) -> Gift
     ensures given { given_by result ≡ (reducer, value_in value) }
 {
     match value {

@@ -8,6 +8,7 @@ mod gathered;
 mod joining;
 pub mod layer;
 mod leaves;
+mod lone;
 mod lowering;
 pub mod recording;
 mod rising;

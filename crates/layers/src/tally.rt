@@ -10,6 +10,7 @@ ghost use Rattle.view_pool.specs.Short.{value_in};
 use crate::few_values::let_go;
 use crate::layer::Layer;
 use crate::leaves::{Leaf, record_of_two};
+use crate::lone::{Lone, record_of_one};
 use crate::recording::Opened;
 use instance_records::record::Record;
 use linked_program::checked::Checked;
@@ -249,6 +250,38 @@ impl Tally {
     {
         match top.leaf(program, value) {
             Some(leaf) => self.record_leaf(opened, top, below, program, leaf),
+            None => self.record_other(alloc, opened, top, below, value, program),
+        }
+    }
+
+    /// The same of a layer that isn't one of most leaves of a program with two reducers.
+    #[inline(always)]
+    fn record_other<V: View>(
+        &mut self,
+        alloc: Global,
+        opened: Opened,
+        top: &mut Layer<V>,
+        below: &mut Layer<V>,
+        value: i64,
+        program: &Checked,
+    ) -> Result<bool, AllocError>
+        requires kinds { top.old.kinds ≡ program.now.kinds }
+        requires same_kinds { below.old.kinds ≡ top.old.kinds }
+        requires monoids { All IsMonoid below.old.kinds }
+        ensures closed { IfOk result (λ done. done ≡ true
+            → self.new ≡ closing program.now.revisions top.old value (opening opened self.old)) }
+        ensures covered { IfOk result (λ done. done ≡ true → below.new ≡ covered below.old top.old) }
+        ensures emptied { IfOk result (λ done. done ≡ true → top.new.worths ≡ identities top.old.kinds) }
+        ensures same { IfOk result (λ done. done ≡ false → self.new ≡ self.old) }
+        ensures same_below { IfOk result (λ done. done ≡ false → below.new ≡ below.old) }
+        ensures opened { OnErr result (self.new ≡ opening opened self.old) }
+        ensures top_kinds { top.new.kinds ≡ top.old.kinds }
+        ensures below_kinds { below.new.kinds ≡ below.old.kinds }
+        ensures values { HaveValues top.old.kinds self.old.made
+            → HaveValues top.old.kinds self.new.made }
+    {
+        match top.lone(program, value) {
+            Some(lone) => self.record_lone(opened, top, below, program, lone),
             None => self.record_any(alloc, opened, top, below, value, program),
         }
     }
@@ -424,6 +457,61 @@ impl Tally {
         }
         let found = top.notes.readings();
         self.made.push(record_of_two(opened, found, leaf));
+        Ok(true)
+    }
+
+    /// The same where the program has one reducer.
+    #[inline(always)]
+    fn record_lone<V: View>(
+        &mut self,
+        opened: Opened,
+        top: &mut Layer<V>,
+        below: &mut Layer<V>,
+        _program: &Checked,
+        lone: Lone,
+    ) -> Result<bool, AllocError>
+        requires few { length top.old.notes ≤ 2 }
+        requires kept { kept_reads top.old ≡ top.old.notes }
+        requires entry { entries_from 0 _program.now.revisions top.old.entered ≡ (lone.procedure, lone.revision) ∷ [] }
+        requires levels { lone.levels ≡ suc top.old.deepest }
+        requires worths { top.old.worths ≡ meaning (value_in lone.gift) ∷ [] }
+        requires touched { touched_from 0 top.old.kinds top.old.worths
+            ≡ (0, meaning (value_in lone.gift)) ∷ [] }
+        requires kinds { top.old.kinds ≡ _program.now.kinds }
+        requires same_kinds { below.old.kinds ≡ top.old.kinds }
+        requires monoids { All IsMonoid below.old.kinds }
+        ensures closed { IfOk result (λ done. done ≡ true
+            → self.new ≡ closing _program.now.revisions top.old lone.value (opening opened self.old)) }
+        ensures covered { IfOk result (λ done. done ≡ true → below.new ≡ covered below.old top.old) }
+        ensures emptied { IfOk result (λ done. done ≡ true → top.new.worths ≡ identities top.old.kinds) }
+        ensures same { IfOk result (λ done. done ≡ false → self.new ≡ self.old) }
+        ensures same_below { IfOk result (λ done. done ≡ false → below.new ≡ below.old) }
+        ensures opened { OnErr result (self.new ≡ opening opened self.old) }
+        ensures top_kinds { top.new.kinds ≡ top.old.kinds }
+        ensures below_kinds { below.new.kinds ≡ below.old.kinds }
+        ensures values { HaveValues top.old.kinds self.old.made
+            → HaveValues top.old.kinds self.new.made }
+    {
+        top.of_kinds();
+        let Ok(executed) = one_more(self.executed) else {
+            let_go(opened);
+            return Ok(false);
+        };
+        if self.opened.reserve(1).is_err() {
+            let_go(opened);
+            return Ok(false);
+        }
+        if self.made.make_room().is_err() {
+            let_go(opened);
+            return Ok(false);
+        }
+        self.executed = executed;
+        if below.cover_of_one(top, lone.gift).is_err() {
+            self.opened.push_reserved(opened);
+            return Err(AllocError);
+        }
+        let found = top.notes.readings();
+        self.made.push(record_of_one(opened, found, lone));
         Ok(true)
     }
 
