@@ -36,11 +36,13 @@ use view_pool::View;
 // So many iterations at most are done in one go: meanwhile no other worker can take a part of them.
 pub(crate) const MOST: u32 = 64;
 
+/// So few iterations are done in one go whether spawned children are called or not: to have another worker take some of them takes longer.
+pub(crate) const SMALL: u32 = 32;
+
 // So many more children an instance has room for: two halves, or its iterations.
 const CHILDREN: usize = 1024;
 
-/// Does the iterations of the topmost instance's half, as far as each goes back by itself, where they are few and spawned children
-/// are called. Whether it did anything.
+/// Does the iterations of the topmost instance's half, as far as each goes back by itself, where they are few. Whether it did anything.
 #[inline(never)]
 #[tactic(auto, using(crate::proofs::Paths::ahead_here))]
 pub(crate) fn half_at_once<V: View>(

@@ -6,7 +6,7 @@ ghost use Rattle.activations.specs.Given.{lent};
 ghost use Rattle.answered_loops.specs.Answered.{is_by_turns};
 ghost use Rattle.running_ahead.specs.Ahead.{IsAhead};
 
-use crate::called_halves::half_at_once;
+use crate::called_halves::{SMALL, half_at_once};
 use crate::ready::may_record;
 use crate::spawning::Spawning;
 use activations::activation::Activation;
@@ -21,8 +21,8 @@ use std::mem;
 use view_pool::View;
 
 /// Spawns the first half of the iterations, or goes over to iterations one by one, where no record could answer all of them at once.
-/// Where spawned children are called, few iterations are done in one go, and the first half of more is called. Few that may be recorded in
-/// one go are left to that, since they need a kit.
+/// So few iterations that another worker would come too late are done in one go; where spawned children are called, more of them are, and the
+/// first half of many is called. Few that may be recorded in one go are left to that, since they need a kit.
 #[inline(always)]
 #[tactic(auto, using(crate::proofs::Paths::ahead_here))]
 pub(crate) fn halves_ahead<V: View, S: Spawning>(
@@ -50,10 +50,42 @@ pub(crate) fn halves_ahead<V: View, S: Spawning>(
     if is_left_to_records(machine, setting, site, share) {
         return false;
     }
+    if share.count <= SMALL {
+        return few_ahead(machine, alloc, setting, site, halvings, share, spawning);
+    }
     if spawning.is_called() {
         if half_at_once(machine, alloc, setting, site, halvings, share) {
             return true;
         }
+        return first_ahead(machine, alloc, setting, site, halvings, share);
+    }
+    halve(machine, alloc, setting, site, halvings, share)
+}
+
+/// The same of few iterations, which are done in one go whether spawned children are called or not.
+#[inline(always)]
+#[tactic(auto, using(crate::proofs::Paths::ahead_here))]
+fn few_ahead<V: View, S: Spawning>(
+    machine: &mut Machine<V>,
+    alloc: Global,
+    setting: Setting<'_>,
+    site: Loop,
+    halvings: u32,
+    share: Share,
+    spawning: &mut S,
+) -> bool
+    requires fits { ShareFits site share }
+    requires there { machine.old.top.work ≡ Work.Halves site halvings share }
+    requires running { machine.old.phase ≡ Phase.Running }
+    requires kinds { machine.old.layer.kinds ≡ setting.program.now.kinds }
+    requires halved { is_by_turns setting.program.now.codes machine.old.top site halvings share.count ≡ false }
+    ensures ahead { IsAhead (lent setting.entry) machine.old machine.new }
+    ensures same { spawning.new ≡ spawning.old }
+{
+    if half_at_once(machine, alloc, setting, site, halvings, share) {
+        return true;
+    }
+    if spawning.is_called() {
         return first_ahead(machine, alloc, setting, site, halvings, share);
     }
     halve(machine, alloc, setting, site, halvings, share)

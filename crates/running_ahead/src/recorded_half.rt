@@ -14,7 +14,7 @@ ghost use Rattle.running_ahead.specs.Leaves.{AreRecorded, Gathered, IsRecordedAh
 ghost use Rattle.running_ahead.specs.RecordedHalves.{HalfRecords};
 
 use crate::answered_chain::chain_through;
-use crate::called_halves::{copies, end_half, keep_all, levels, turn_to};
+use crate::called_halves::{SMALL, copies, end_half, keep_all, levels, turn_to};
 use crate::descent::{Part, Ready, descend};
 use crate::halves::is_halved;
 use crate::leaf_chain::Stretch;
@@ -31,9 +31,6 @@ use positions::work::{Loop, Share, Work};
 use small_steps::machine::Machine;
 use std::alloc::{AllocError, Global};
 use view_pool::{Kit, KitSource, View};
-
-/// So few iterations are done in one go whether spawned children are called or not: to have another worker take some of them takes longer.
-const SMALL: u32 = 32;
 
 /// A half of a loop: that share of its iterations, which may be halved so many times more.
 #[derive(Clone, Copy)]
