@@ -18,12 +18,12 @@ use Rattle.running_ahead.specs.Chains.{AreTurns, IsWithin, reach, IsClear, halve
 use Rattle.running_ahead.proofs.ChainedHalves.{grain_of, all_over}
 use Rattle.running_ahead.proofs.Stacked.{clear_less, stopped_before, stopped_within}
 
-module _ (setting : Setting) (l : Loop) (k : ℕ) (h : Share) (a : PlainActivation) (there : a.work ≡ Halves l k h) (u : PlainLayer) (path : List ℕ) (below : List PlainActivation) (r g : ℕ) (few : r ≤ 6) where
+module _ (setting : Setting) (l : Loop) (k : ℕ) (h : Share) (a : PlainActivation) (there : a.work ≡ Halves l k h) (u : PlainLayer) (path : List ℕ) (below : List PlainActivation) (r g : ℕ) (few : r ≤ 8) where
   begins : (s : PlainStrand) → halves_now l k h a u s ≡ topped Running a u s
   begins s = ap (λ (w : Work). topped Running (at w a) u s) (sym there)
 
-  clear_here : (s : PlainStrand) → IsClear 7 s → IsClear (suc r) s
-  clear_here s clear = clear_less (suc r) 7 s (let less : suc r ≤ 7 = omega (arith, few) in less) clear
+  clear_here : (s : PlainStrand) → IsClear 9 s → IsClear (suc r) s
+  clear_here s clear = clear_less (suc r) 9 s (let less : suc r ≤ 9 = omega (arith, few) in less) clear
 
   -- all iterations are over
   pub half_whole : (b : PlainActivation) (v : PlainLayer) → g ≡ grain_of setting l a → h.count ≤ reach r g → is_by_turns setting.codes a l k h.count ≡ false → AreTurns setting l a.procedure a.slots a.left h.first u h.count v → b ≡ halved_to a
@@ -62,7 +62,7 @@ module _ (setting : Setting) (l : Loop) (k : ℕ) (h : Share) (a : PlainActivati
         (stopped_within setting l s k h a u new now n j part b m child w inside (reaches s (clear_here s clear) e f) by_one some))))
 
 -- of a strand as it stands
-module _ (setting : Setting) (s z : PlainStrand) (view : s ≡ z) (running : z.phase ≡ Running) (clear : IsClear 7 z) (a : PlainActivation) (same : a ≡ s.top) (path : List ℕ) (below : List PlainActivation) (same_path : s.path ≡ path) (same_below : s.below ≡ below)
+module _ (setting : Setting) (s z : PlainStrand) (view : s ≡ z) (running : z.phase ≡ Running) (clear : IsClear 9 z) (a : PlainActivation) (same : a ≡ s.top) (path : List ℕ) (below : List PlainActivation) (same_path : s.path ≡ path) (same_below : s.below ≡ below)
     (b : PlainActivation) (v : PlainLayer) (new : List ℕ) (now : List PlainActivation) where
   there_now : (over : Bool) → HalfTo setting over a s.layer path below b v new now → IsAhead setting z (topped (half_phase over) b v (under new now s))
   there_now over half =
@@ -70,7 +70,7 @@ module _ (setting : Setting) (s z : PlainStrand) (view : s ≡ z) (running : z.p
       let begins : topped Running s.top s.layer s ≡ s = ap (λ (f : Phase). topped f s.top s.layer s) (sym phase) in
       let t = topped (half_phase over) b v (under new now s) in
       subst (λ (x : PlainStrand). IsAhead setting x t) (begins ∙ view)
-      (subst (λ (x : PlainActivation). IsAhead setting (topped Running x s.layer s) t) same (half s (subst (λ (x : PlainStrand). IsClear 7 x) (sym view) clear) same_path same_below))
+      (subst (λ (x : PlainActivation). IsAhead setting (topped Running x s.layer s) t) same (half s (subst (λ (x : PlainStrand). IsClear 9 x) (sym view) clear) same_path same_below))
 
   -- it leaves
   pub half_leaves : HalfTo setting true a s.layer path below b v new now → IsAhead setting z (topped (Leaving (pos 0)) b v (under new now s))

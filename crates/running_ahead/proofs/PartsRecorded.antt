@@ -162,12 +162,12 @@ arrivals_more setting site now same r n long s k h a x y path below m j part b o
 
 -- ---- a half, in whatever strand
 
-module _ (setting : Setting) (l : Loop) (k : ℕ) (h : Share) (a : PlainActivation) (there : a.work ≡ Halves l k h) (x : Gathered) (path : List ℕ) (below : List PlainActivation) (r g : ℕ) (few : r ≤ 6) where
+module _ (setting : Setting) (l : Loop) (k : ℕ) (h : Share) (a : PlainActivation) (there : a.work ≡ Halves l k h) (x : Gathered) (path : List ℕ) (below : List PlainActivation) (r g : ℕ) (few : r ≤ 8) where
   begins : (s : PlainStrand) → halves_gathered l k h a x s ≡ gathered Running a x s
   begins s = ap (λ (w : Work). gathered Running (at w a) x s) (sym there)
 
-  clear_here : (s : PlainStrand) → IsClear 7 (gathering x s) → IsClear (suc r) (gathering x s)
-  clear_here s clear = clear_less (suc r) 7 (gathering x s) (let less : suc r ≤ 7 = omega (arith, few) in less) clear
+  clear_here : (s : PlainStrand) → IsClear 9 (gathering x s) → IsClear (suc r) (gathering x s)
+  clear_here s clear = clear_less (suc r) 9 (gathering x s) (let less : suc r ≤ 9 = omega (arith, few) in less) clear
 
   -- all iterations are recorded
   pub half_over : (b : PlainActivation) (y : Gathered) → g ≡ grain_of setting l a → h.count ≤ reach r g → is_by_turns setting.codes a l k h.count ≡ false → AreRecorded setting l a.procedure a.slots a.left h.first x h.count y → b ≡ halved_to a

@@ -98,5 +98,5 @@ half_phase false = Running
 -- in whatever strand: it leaves, or one of its parts goes on
 abbrev pub HalfTo : Setting → Bool → PlainActivation → PlainLayer → List ℕ → List PlainActivation
     → PlainActivation → PlainLayer → List ℕ → List PlainActivation → Type 0
-HalfTo setting over a u path below b v new_path new_below = (s : PlainStrand) → IsClear 7 s → s.path ≡ path → s.below ≡ below
+HalfTo setting over a u path below b v new_path new_below = (s : PlainStrand) → IsClear 9 s → s.path ≡ path → s.below ≡ below
     → IsAhead setting (topped Running a u s) (topped (half_phase over) b v (under new_path new_below s))

@@ -34,7 +34,7 @@ use std::alloc::Global;
 use view_pool::View;
 
 // So many iterations at most are done in one go: meanwhile no other worker can take a part of them.
-pub(crate) const MOST: u32 = 64;
+pub(crate) const MOST: u32 = 256;
 
 /// So few iterations are done in one go whether spawned children are called or not: to have another worker take some of them takes longer.
 pub(crate) const SMALL: u32 = 32;
@@ -111,10 +111,10 @@ fn levels_of<V: View>(
     ensures plain { OnSome result (memo_of setting.entry.program.now.codes callee ≡ false) }
     ensures deep { OnSome result ((machine.now.top.left == 0) ≡ false) }
     ensures children { OnSome result (machine.now.top.children + 1024 < 2 ^ 64) }
-    ensures clear { OnSome result (IsClear 7 machine.now) }
-    ensures fewer { OnSome result (part.share.count ≤ 64) }
+    ensures clear { OnSome result (IsClear 9 machine.now) }
+    ensures fewer { OnSome result (part.share.count ≤ 256) }
     ensures reached { IfSome result (λ n. part.share.count ≤ reach n part.grain) }
-    ensures few { IfSome result (λ n. n ≤ 6) }
+    ensures few { IfSome result (λ n. n ≤ 8) }
     ensures halved { IfSome result (λ n. n ≤ part.halvings) }
 {
     if !may_go(machine, setting, callee) || part.share.count > MOST {
@@ -129,7 +129,7 @@ fn may_go<V: View>(machine: &Machine<V>, setting: Setting<'_>, callee: usize) ->
     ensures plain { result ≡ true → memo_of setting.entry.program.now.codes callee ≡ false }
     ensures deep { result ≡ true → (machine.now.top.left == 0) ≡ false }
     ensures children { result ≡ true → machine.now.top.children + 1024 < 2 ^ 64 }
-    ensures clear { result ≡ true → IsClear 7 machine.now }
+    ensures clear { result ≡ true → IsClear 9 machine.now }
 {
     if setting.program.is_memo(callee) || never_goes_back(setting, callee) {
         return false;
@@ -141,7 +141,7 @@ fn may_go<V: View>(machine: &Machine<V>, setting: Setting<'_>, callee: usize) ->
 pub(crate) fn has_room<V: View>(machine: &Machine<V>) -> bool
     ensures deep { result ≡ true → (machine.now.top.left == 0) ≡ false }
     ensures children { result ≡ true → machine.now.top.children + 1024 < 2 ^ 64 }
-    ensures clear { result ≡ true → IsClear 7 machine.now }
+    ensures clear { result ≡ true → IsClear 9 machine.now }
 {
     if machine.top.left() == 0 {
         return false;
@@ -166,9 +166,9 @@ fn never_goes_back(setting: Setting<'_>, callee: usize) -> bool {
     false
 }
 
-/// Whether the implicit syncs of the topmost instance, and of those up to seven levels above it, are passed and close no layer.
+/// Whether the implicit syncs of the topmost instance, and of those up to nine levels above it, are passed and close no layer.
 fn is_clear<V: View>(machine: &Machine<V>) -> bool
-    ensures clear { result ≡ true → IsClear 7 machine.now }
+    ensures clear { result ≡ true → IsClear 9 machine.now }
 {
     starts_below(machine) && is_apart(&machine.tally, machine.path.len())
 }
@@ -184,12 +184,12 @@ fn starts_below<V: View>(machine: &Machine<V>) -> bool
     }
 }
 
-/// Whether the topmost open layer is that of no instance whose name is so long, or up to seven longer.
+/// Whether the topmost open layer is that of no instance whose name is so long, or up to nine longer.
 fn is_apart(tally: &Tally, size: usize) -> bool
-    requires room { size + 8 < 2 ^ 64 }
-    ensures apart { result ≡ true → (n : ℕ) → size ≤ n → n < size + 8 → is_own tally.now.opened n ≡ false }
+    requires room { size + 10 < 2 ^ 64 }
+    ensures apart { result ≡ true → (n : ℕ) → size ≤ n → n < size + 10 → is_own tally.now.opened n ≡ false }
 {
-    for more in 0..8usize {
+    for more in 0..10usize {
         if tally.is_own(size + more) {
             return false;
         }
@@ -213,10 +213,10 @@ fn goes_on(
     requires there { top.old.work ≡ Work.Halves ready.part.site ready.part.halvings ready.part.share }
     requires halved { length ready.copies.items ≤ ready.part.halvings }
     requires reached { ready.part.share.count ≤ reach (length ready.copies.items) ready.part.grain }
-    requires levels { length ready.copies.items ≤ 6 }
+    requires levels { length ready.copies.items ≤ 8 }
     requires copies { All (λ v. v.items ≡ top.old.slots) ready.copies.items }
     requires children { top.old.children + 1024 < 2 ^ 64 }
-    requires few { ready.part.share.count ≤ 64 }
+    requires few { ready.part.share.count ≤ 256 }
     requires path_room { vec_len path.old + length ready.copies.items < vec_capacity path.old }
     requires below_room { vec_len below.old + length ready.copies.items < vec_capacity below.old }
     ensures came { (setting : PlainSetting) (u v : PlainLayer)
@@ -249,11 +249,11 @@ fn goes_on(
 /// How often so many iterations are halved at most; none where that is more often than is allowed here.
 pub(crate) fn levels(count: u32, grain: u32, halvings: u32) -> Option<usize>
     ensures reached { IfSome result (λ n. count ≤ reach n grain) }
-    ensures few { IfSome result (λ n. n ≤ 6) }
+    ensures few { IfSome result (λ n. n ≤ 8) }
     ensures halved { IfSome result (λ n. n ≤ halvings) }
 {
     let mut most = u64::from(grain);
-    for level in 0..7u32 {
+    for level in 0..9u32 {
         if level > halvings {
             return None;
         }

@@ -34,8 +34,8 @@ pub(crate) fn may_record<V: View>(
     ensures counted { result ≡ true → IsCounted machine.now.top.slots code.entry.variable (map plain code.entry.arguments.now) }
     ensures deep { result ≡ true → (machine.now.top.left == 0) ≡ false }
     ensures children { result ≡ true → machine.now.top.children + 1024 < 2 ^ 64 }
-    ensures clear { result ≡ true → IsClear 7 machine.now }
-    ensures few { result ≡ true → count ≤ 64 }
+    ensures clear { result ≡ true → IsClear 9 machine.now }
+    ensures few { result ≡ true → count ≤ 256 }
 {
     if count > MOST || !are_recorded(program, code.callee) {
         return false;

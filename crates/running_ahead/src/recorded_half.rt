@@ -93,10 +93,10 @@ fn levels_of<V: View>(
     ensures counted { OnSome result (IsCounted machine.now.top.slots code.entry.variable (map plain code.entry.arguments.now)) }
     ensures deep { OnSome result ((machine.now.top.left == 0) ≡ false) }
     ensures children { OnSome result (machine.now.top.children + 1024 < 2 ^ 64) }
-    ensures clear { OnSome result (IsClear 7 machine.now) }
-    ensures fewer { OnSome result (part.share.count ≤ 64) }
+    ensures clear { OnSome result (IsClear 9 machine.now) }
+    ensures fewer { OnSome result (part.share.count ≤ 256) }
     ensures reached { IfSome result (λ n. part.share.count ≤ reach n part.grain) }
-    ensures few { IfSome result (λ n. n ≤ 6) }
+    ensures few { IfSome result (λ n. n ≤ 8) }
     ensures halved { IfSome result (λ n. n ≤ part.halvings) }
 {
     if !may_record(machine, setting.program, code, part.share.count) {
@@ -117,7 +117,7 @@ fn make_parts<V: View>(
     size: usize,
     levels: usize,
 ) -> Option<Vec<Vec<Slot>>>
-    requires few { levels ≤ 6 }
+    requires few { levels ≤ 8 }
     ensures same { machine.new ≡ machine.old }
     ensures many { IfSome result (λ xs. length xs.items ≡ levels) }
     ensures copies { IfSome result (λ xs. All (λ v. v.items ≡ machine.old.top.slots) xs.items) }
@@ -152,11 +152,11 @@ fn record_part<V: View, K: KitSource<Kit<V>>>(
     requires counted { IsCounted machine.old.top.slots code.variable (map plain code.arguments.now) }
     requires deep { (machine.old.top.left == 0) ≡ false }
     requires children { machine.old.top.children + 1024 < 2 ^ 64 }
-    requires clear { IsClear 7 machine.old }
-    requires few { ready.part.share.count ≤ 64 }
+    requires clear { IsClear 9 machine.old }
+    requires few { ready.part.share.count ≤ 256 }
     requires halved { length ready.copies.items ≤ ready.part.halvings }
     requires reached { ready.part.share.count ≤ reach (length ready.copies.items) ready.part.grain }
-    requires levels { length ready.copies.items ≤ 6 }
+    requires levels { length ready.copies.items ≤ 8 }
     requires copies { All (λ v. v.items ≡ machine.old.top.slots) ready.copies.items }
     requires supplied { IsSuppliedBy K.KitSource setting kits.old machine.old }
     ensures ahead { OnOk result (IsRecordedAhead (lent setting.entry) machine.old machine.new) }
@@ -200,14 +200,14 @@ fn settle_half<V: View>(
     requires running { machine.old.phase ≡ Phase.Running }
     requires some { done ≤ ready.part.share.count }
     requires children { machine.old.top.children + 1024 < 2 ^ 64 }
-    requires few { ready.part.share.count ≤ 64 }
+    requires few { ready.part.share.count ≤ 256 }
     requires halved { length ready.copies.items ≤ ready.part.halvings }
     requires reached { ready.part.share.count ≤ reach (length ready.copies.items) ready.part.grain }
-    requires levels { length ready.copies.items ≤ 6 }
+    requires levels { length ready.copies.items ≤ 8 }
     requires copies { All (λ v. v.items ≡ machine.old.top.slots) ready.copies.items }
     ensures settled { OnOk result ((setting : PlainSetting) (s : PlainStrand)
         → machine.old ≡ record s { layer = machine.old.layer; tally = machine.old.tally }
-        → IsClear 7 s
+        → IsClear 9 s
         → ready.part.grain ≡ (loop_at setting.codes s.top.procedure ready.part.site).grain
         → is_by_turns setting.codes s.top ready.part.site ready.part.halvings ready.part.share.count ≡ false
         → AreRecorded setting ready.part.site s.top.procedure s.top.slots s.top.left ready.part.share.first
@@ -257,10 +257,10 @@ fn half_goes(
     requires there { top.old.work ≡ Work.Halves ready.part.site ready.part.halvings ready.part.share }
     requires halved { length ready.copies.items ≤ ready.part.halvings }
     requires reached { ready.part.share.count ≤ reach (length ready.copies.items) ready.part.grain }
-    requires levels { length ready.copies.items ≤ 6 }
+    requires levels { length ready.copies.items ≤ 8 }
     requires copies { All (λ v. v.items ≡ top.old.slots) ready.copies.items }
     requires children { top.old.children + 1024 < 2 ^ 64 }
-    requires few { ready.part.share.count ≤ 64 }
+    requires few { ready.part.share.count ≤ 256 }
     requires path_room { vec_len path.old + length ready.copies.items < vec_capacity path.old }
     requires below_room { vec_len below.old + length ready.copies.items < vec_capacity below.old }
     ensures recorded { (setting : PlainSetting) (x y : Gathered)

@@ -13,5 +13,5 @@ loop-more-preserved c =
 
 pub returns : goal.returns
 returns c =
-    let all : 8 ≤ c.loop-more.more = c.loop-more-test.false in
+    let all : 10 ≤ c.loop-more.more = c.loop-more-test.false in
     record { apart = λ _ n long short. c.loop-more.invariant.apart n long (let less : n < c.args.size + c.loop-more.more = omega (arith, all, short) in less) }

@@ -23,7 +23,7 @@ turn_to-requires-clause-children c =
     let a : c.descend-last.new.top.children ≤ c.args.top.now.children = c.descend-last.ensures.children in
     let d : c.descend-last.result.done < c.descend-last.result.part.share.count = c.descend-last.ensures.some in
     let f : c.descend-last.result.part.share.count ≤ c.args.ready.part.share.count = c.descend-last.ensures.fewer in
-    let few : c.args.ready.part.share.count ≤ 64 = c.requires.few in
+    let few : c.args.ready.part.share.count ≤ 256 = c.requires.few in
     let room : c.args.top.now.children + 1024 < 18446744073709551616 = c.requires.children in
     omega (arith, a, d, f, few, room)
 
