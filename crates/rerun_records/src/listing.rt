@@ -66,8 +66,13 @@ pub(crate) fn found_in<'a>(
 
 // The places of the records of the same procedures and arguments as these: of the first of them, up to one of which there is none, or for which
 // memory is refused. Each is looked for first as far from the one before it as the sums of their arguments are apart. They are looked up
-// before any is put in, in a loop that does nothing else: so several are fetched from memory at the same time.
-fn places_near(list: &[Record], places: &Places, records: &Vec<Record>) -> Vec<usize>
+// before any is put in, in a loop that does nothing else: so several are fetched from memory at the same time, and their numbers too.
+fn places_near(
+    list: &[Record],
+    places: &Places,
+    numbers: &[u32],
+    records: &Vec<Record>,
+) -> Vec<usize>
     requires numbered { places.now.numbers ≡ map instance_number list.now }
 {
     let mut found = Vec::new(*records.allocator());
@@ -81,7 +86,7 @@ fn places_near(list: &[Record], places: &Places, records: &Vec<Record>) -> Vec<u
         if place >= list.len() {
             return found;
         }
-        if found.push(place).is_err() {
+        if found.push(noted(numbers, place)).is_err() {
             return found;
         }
         offset = place.wrapping_sub(sum);
@@ -117,11 +122,26 @@ fn found_place(list: &[Record], places: &Places, made: &Record) -> usize
     }
 }
 
-// The place of that number among these, if there is one.
+// A place as it is noted: from the other end, where nothing of the record there is counted. So its number is looked at, which its put asks
+// for, while the others are looked up.
+#[inline(always)]
+fn noted(numbers: &[u32], place: usize) -> usize {
+    match numbers.get(place) {
+        Some(number) => {
+            if is_fresh(*number) {
+                return usize::MAX.wrapping_sub(place);
+            }
+            place
+        }
+        None => place,
+    }
+}
+
+// The place of that number among these, which are noted so, if there is one.
 #[inline(always)]
 fn near_at(near: &[usize], number: usize) -> usize {
     match near.get(number) {
-        Some(place) => *place,
+        Some(place) => (*place).min(usize::MAX.wrapping_sub(*place)),
         None => usize::MAX,
     }
 }
@@ -170,7 +190,7 @@ pub(crate) fn put_all(
     ensures in_step { (tables : PlainTables) → IsInStep tables (with_numbers numbers.old.items list.old.items)
         → ReadNow tables records.items → IsInStep tables (with_numbers numbers.new.items list.new.items) }
 {
-    let near = places_near(list, places, &records);
+    let near = places_near(list, places, numbers, &records);
     let mut count: usize = 0;
     for record in records {
         let place = near_at(&near, count);
