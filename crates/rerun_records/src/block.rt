@@ -8,9 +8,10 @@ use linked_program::checked::Checked;
 use std::marker::Model;
 
 /// The places of records of one procedure, whose arguments go up by one in the counted one, and a record that has what theirs
-/// have together: what they have read only where that is kept.
+/// have together: what they have read only where that is kept. The first place stands beside their list, since each look-up asks for it.
 #[derive(Drop)]
 pub struct Block {
+    first: Option<u32>,
     places: Vec<u32>,
     counted: usize,
     keeps: bool,
@@ -18,11 +19,14 @@ pub struct Block {
 }
 
 impl Model for Block {
+    ghost use Rattle.std.specs.Prelude.{◌≡◌, slice_get};
     ghost use Rattle.rerun_records.specs.Blocks.{PlainBlock};
 
     ghost Value = { PlainBlock };
 
     ghost view = { λ b. record { places = b.places.items; counted = b.counted; keeps = b.keeps; sum = b.sum } };
+
+    ghost invariant = { λ b. b.first ≡ slice_get b.places.items 0 };
 }
 
 impl Block {
@@ -31,12 +35,22 @@ impl Block {
         ensures block { result
             ≡ record { places = places.items; counted = counted; keeps = keeps; sum = sum } }
     {
+        let first = places.first().copied();
         Block {
+            first,
             places,
             counted,
             keeps,
             sum,
         }
+    }
+
+    /// The first of the places.
+    #[inline(always)]
+    pub(crate) fn first(&self) -> Option<u32>
+        ensures first { result ≡ slice_get self.now.places 0 }
+    {
+        self.first
     }
 
     /// Lends the places.
@@ -92,8 +106,8 @@ impl Block {
     pub(crate) fn begins_at(&self, place: usize) -> bool
         ensures begins { result ≡ true → slice_get self.now.places 0 ≡ Some place }
     {
-        match self.places.first() {
-            Some(first) => *first as usize == place,
+        match self.first {
+            Some(first) => first as usize == place,
             None => false,
         }
     }

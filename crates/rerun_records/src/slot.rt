@@ -68,8 +68,8 @@ impl Slot {
 // Notes that the first record of a block is due.
 fn note_first(block: &Option<Block>, due: &mut Due) {
     match block {
-        Some(block) => match block.places().first() {
-            Some(first) => due.note(*first),
+        Some(block) => match block.first() {
+            Some(first) => due.note(first),
             None => {}
         },
         None => {}
