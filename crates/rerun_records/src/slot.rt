@@ -9,8 +9,9 @@ use std::marker::Model;
 /// drops many gives the allocator nothing to put together, which the next run would wait for.
 #[derive(Drop)]
 pub(crate) struct Slot {
-    block: Option<Block>,
+    // In front, where it lies in memory beside what a look-up asks of the block.
     is_live: bool,
+    block: Option<Block>,
 }
 
 impl Model for Slot {
