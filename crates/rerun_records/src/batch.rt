@@ -31,7 +31,7 @@ impl<'a> Batch<'a> {
         ensures whole { result.sum.now ≡ block.now.sum }
         ensures count { result.count ≡ length block.now.places }
     {
-        let count = block.places().len();
+        let count = block.count();
         Batch {
             sum: block.sum(),
             count: count as u32,

@@ -1,5 +1,5 @@
 //! Records in a row that one record stands for.
-ghost use Rattle.std.specs.Prelude.{◌≡◌, Some, true, slice_get};
+ghost use Rattle.std.specs.Prelude.{◌≡◌, Some, true, length, slice_get};
 ghost use Rattle.rerun_records.specs.Blocks.{Answers};
 
 use crate::series::Series;
@@ -8,25 +8,27 @@ use linked_program::checked::Checked;
 use std::marker::Model;
 
 /// The places of records of one procedure, whose arguments go up by one in the counted one, and a record that has what theirs
-/// have together: what they have read only where that is kept. The first place stands beside their list, since each look-up asks for it.
+/// have together: what they have read only where that is kept. What each look-up asks for stands together in front, since it lies in memory so:
+/// the first place and how many there are beside their list.
 #[derive(Drop)]
 pub struct Block {
     first: Option<u32>,
-    places: Vec<u32>,
+    count: usize,
     counted: usize,
     keeps: bool,
     sum: Record,
+    places: Vec<u32>,
 }
 
 impl Model for Block {
-    ghost use Rattle.std.specs.Prelude.{◌≡◌, slice_get};
+    ghost use Rattle.std.specs.Prelude.{◌≡◌, length, slice_get};
     ghost use Rattle.rerun_records.specs.Blocks.{PlainBlock};
 
     ghost Value = { PlainBlock };
 
     ghost view = { λ b. record { places = b.places.items; counted = b.counted; keeps = b.keeps; sum = b.sum } };
 
-    ghost invariant = { λ b. b.first ≡ slice_get b.places.items 0 };
+    ghost invariant = { λ b. (b.first ≡ slice_get b.places.items 0) × (b.count ≡ length b.places.items) };
 }
 
 impl Block {
@@ -36,12 +38,14 @@ impl Block {
             ≡ record { places = places.items; counted = counted; keeps = keeps; sum = sum } }
     {
         let first = places.first().copied();
+        let count = places.len();
         Block {
             first,
-            places,
+            count,
             counted,
             keeps,
             sum,
+            places,
         }
     }
 
@@ -51,6 +55,14 @@ impl Block {
         ensures first { result ≡ slice_get self.now.places 0 }
     {
         self.first
+    }
+
+    /// How many places there are.
+    #[inline(always)]
+    pub(crate) fn count(&self) -> usize
+        ensures count { result ≡ length self.now.places }
+    {
+        self.count
     }
 
     /// Lends the places.
@@ -89,7 +101,7 @@ impl Block {
     {
         self.begins_at(place)
             && self.counted == series.counted
-            && self.places.len() <= series.most as usize
+            && self.count <= series.most as usize
             && self.has_reads_for(series.keeps)
             && self.sum.is_allowed(series.depth, program)
     }
