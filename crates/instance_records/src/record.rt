@@ -35,9 +35,9 @@ pub struct Record {
     procedure: usize,
     called: Called,
     entered: Entries,
-    reads: Readings,
     value: i64,
     contribution: ShortList<Gift>,
+    reads: Readings,
 }
 
 impl Model for Record {
