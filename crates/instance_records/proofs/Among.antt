@@ -51,17 +51,17 @@ module _ (n : Node) (note : Note) where
       ∙ either (is_read (map note_of (items_in (out-Node n).own)) note) false e
 
   pub read_in_parts : (b : Box Below Global) → (out-Node n).below ≡ Some b → is_read (map note_of (items_in (out-Node n).own)) note ≡ false
-      → is_read (node_notes n) note ≡ is_read (flat_map shared_notes (out-Below b.value).parts.items) note
+      → is_read (node_notes n) note ≡ is_read (flat_map shared_notes (items_in (out-Below b.value).parts)) note
   read_in_parts b at e =
       ap (λ ns. is_read ns note) (with_parts n b at)
-      ∙ read_append (map note_of (items_in (out-Node n).own)) (flat_map shared_notes (out-Below b.value).parts.items) note
-      ∙ either (is_read (map note_of (items_in (out-Node n).own)) note) (is_read (flat_map shared_notes (out-Below b.value).parts.items) note) e
+      ∙ read_append (map note_of (items_in (out-Node n).own)) (flat_map shared_notes (items_in (out-Below b.value).parts)) note
+      ∙ either (is_read (map note_of (items_in (out-Node n).own)) note) (is_read (flat_map shared_notes (items_in (out-Below b.value).parts)) note) e
 
   -- where its rows lie in no span, it isn't below
   pub read_outside : (b : Box Below Global) → (out-Node n).below ≡ Some b → is_covered n ≡ true → is_covered_by (spans_in (out-Below b.value).spans) note ≡ false
       → is_read (map note_of (items_in (out-Node n).own)) note ≡ false → is_read (node_notes n) note ≡ false
   read_outside b at covered outside e =
-      read_in_parts b at e ∙ read_elsewhere (spans_in (out-Below b.value).spans) (flat_map shared_notes (out-Below b.value).parts.items) note outside (spans_cover n b at covered)
+      read_in_parts b at e ∙ read_elsewhere (spans_in (out-Below b.value).spans) (flat_map shared_notes (items_in (out-Below b.value).parts)) note outside (spans_cover n b at covered)
 
 -- ---- rows of one more record
 

@@ -129,7 +129,7 @@ below_full n b e h =
     (cell_behind (map note_of (items_in (out-Node n).own)) (below_told b.value).0 t row c cell))
     there
 
-pub below_is_full : (b : Below) (x : Below-F Below Node) (notes : List Note) → b ≡ roll-Below x → flat_map shared_notes x.parts.items ≡ notes → IsFull notes x.full → IsFull (below_told b).0 (out-Below b).full
+pub below_is_full : (b : Below) (x : Below-F Below Node) (notes : List Note) → b ≡ roll-Below x → flat_map shared_notes (items_in x.parts) ≡ notes → IsFull notes x.full → IsFull (below_told b).0 (out-Below b).full
 below_is_full b x notes e f h =
     subst (λ (y : Below). IsFull (below_told y).0 (out-Below y).full) (sym e)
     (subst (λ (ns : List Note). IsFull ns (out-Below (roll-Below x)).full) (sym (below_roll x ∙ f)) (subst (λ (y : Below-F Below Node). IsFull notes y.full) (sym (out-roll-Below x)) h))

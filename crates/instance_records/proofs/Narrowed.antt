@@ -116,7 +116,7 @@ alone_is n note b =
 -- where none of its own rests on the change, what does is in its parts
 pub below_is : (n : Node) (note : Note) (change : ℕ × ℤ) (changes : List (ℕ × ℤ)) (b : Box Below Global) → (out-Node n).below ≡ Some b → changes ≡ change ∷ []
     → list_any (λ x. list_any (rests_on x) changes) (map note_of (items_in (out-Node n).own)) ≡ false → is_apart (change ∷ []) note ≡ false
-    → is_read (node_notes n) note ≡ is_read (flat_map shared_notes (out-Below b.value).parts.items) note
+    → is_read (node_notes n) note ≡ is_read (flat_map shared_notes (items_in (out-Below b.value).parts)) note
 below_is n note change changes b at is e h =
     let own = map note_of (items_in (out-Node n).own) in
     let apart : every (is_apart (change ∷ [])) own ≡ true = subst (λ cs. every (is_apart cs) own ≡ true) is (own_apart changes own e) in

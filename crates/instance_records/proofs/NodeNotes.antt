@@ -13,7 +13,10 @@ use Rattle.instance_records.specs.declared.readings.Node.{Node, out-Node, roll-N
 use Rattle.instance_records.specs.declared.readings.Below.{Below, Below-F, out-Below, roll-Below, roll-out-Below, fold-roll-Below}
 use Rattle.evaluation.specs.Short.{note_of}
 use Rattle.evaluation.specs.declared.reading.Reading.{Reading}
+use Rattle.instance_records.specs.declared.few_spans.FewSpans.{FewSpans}
+use Rattle.instance_records.specs.declared.full.Full.{Full}
 use Rattle.instance_records.specs.declared.short_list.ShortList.{ShortList}
+use Rattle.instance_records.specs.declared.short_list.ShortList.TheVariants.{One, Two, Several}
 use Rattle.instance_records.specs.declared.spans.Span.{Span}
 use Rattle.instance_records.specs.ShortLists.{items_in}
 use Rattle.instance_records.specs.Spans.{is_covered_by, span_of, put_spans, spans_in}
@@ -42,23 +45,38 @@ notes_out n = ap (λ t. t.0) (out_told n)
 pub covered_out : (n : Node) → is_covered n ≡ is_covered_below (out-Node n).below
 covered_out n = ap (λ t. t.1) (out_told n)
 
-both_same : (p : Note → Bool) (a b : Bool) (xs ys : List Note) → a ≡ b → xs ≡ ys → (a && every p xs) ≡ (b && every p ys)
-both_same p a b xs ys e f = ap (λ c. c && every p xs) e ∙ ap (λ zs. b && every p zs) f
+abbrev told_of : List Note → Bool → Told
+told_of notes covered = (notes, covered)
 
-pub below_roll : (x : Below-F Below Node) → (below_told (roll-Below x)).0 ≡ flat_map shared_notes x.parts.items
-below_roll x = ap (λ t. t.0) (fold-roll-Below Told Told below_step node_step x) ∙ flat_map-map (λ (p : Arc Told Global). (arc_value p).0) _ x.parts.items
+told_same : (spans : FewSpans) (a b : Bool) (xs ys : List Note) → a ≡ b → xs ≡ ys
+    → told_of xs (a && every (is_covered_by (spans_in spans)) xs) ≡ told_of ys (b && every (is_covered_by (spans_in spans)) ys)
+told_same spans a b xs ys e f =
+    ap (λ c. told_of xs (c && every (is_covered_by (spans_in spans)) xs)) e ∙ ap (λ zs. told_of zs (b && every (is_covered_by (spans_in spans)) zs)) f
 
-pub below_covered_roll : (x : Below-F Below Node) → (below_told (roll-Below x)).1 ≡ (every is_covered_share x.parts.items && every (is_covered_by (spans_in x.spans)) (flat_map shared_notes x.parts.items))
-below_covered_roll x =
-    ap (λ t. t.1) (fold-roll-Below Told Told below_step node_step x)
-    ∙ both_same (is_covered_by (spans_in x.spans)) _ _ _ _
-    (sym (every_mapped (λ (p : Arc Told Global). (arc_value p).1) is_covered_share _ x.parts.items (λ p. refl)))
-    (flat_map-map (λ (p : Arc Told Global). (arc_value p).0) _ x.parts.items)
+parts_roll : (parts : ShortList (Arc Node Global)) (spans : FewSpans) (full : Full) → below_told (roll-Below (record { parts = parts; spans = spans; full = full }))
+    ≡ (flat_map shared_notes (items_in parts), every is_covered_share (items_in parts) && every (is_covered_by (spans_in spans)) (flat_map shared_notes (items_in parts)))
+parts_roll (One item) spans full = fold-roll-Below Told Told below_step node_step (record { parts = One item; spans = spans; full = full })
+parts_roll (Two pair) spans full =
+    fold-roll-Below Told Told below_step node_step (record { parts = Two pair; spans = spans; full = full })
+    ∙ told_same spans _ _ _ _
+    (sym (every_mapped (λ (p : Arc Told Global). (arc_value p).1) is_covered_share _ pair (λ p. refl)))
+    (flat_map-map (λ (p : Arc Told Global). (arc_value p).0) _ pair)
+parts_roll (Several items) spans full =
+    fold-roll-Below Told Told below_step node_step (record { parts = Several items; spans = spans; full = full })
+    ∙ told_same spans _ _ _ _
+    (sym (every_mapped (λ (p : Arc Told Global). (arc_value p).1) is_covered_share _ items.items (λ p. refl)))
+    (flat_map-map (λ (p : Arc Told Global). (arc_value p).0) _ items.items)
 
-pub below_out : (b : Below) → (below_told b).0 ≡ flat_map shared_notes (out-Below b).parts.items
+pub below_roll : (x : Below-F Below Node) → (below_told (roll-Below x)).0 ≡ flat_map shared_notes (items_in x.parts)
+below_roll x = ap (λ t. t.0) (parts_roll x.parts x.spans x.full)
+
+pub below_covered_roll : (x : Below-F Below Node) → (below_told (roll-Below x)).1 ≡ (every is_covered_share (items_in x.parts) && every (is_covered_by (spans_in x.spans)) (flat_map shared_notes (items_in x.parts)))
+below_covered_roll x = ap (λ t. t.1) (parts_roll x.parts x.spans x.full)
+
+pub below_out : (b : Below) → (below_told b).0 ≡ flat_map shared_notes (items_in (out-Below b).parts)
 below_out b = ap (λ x. (below_told x).0) (sym (roll-out-Below b)) ∙ below_roll (out-Below b)
 
-pub below_covered_out : (b : Below) → (below_told b).1 ≡ (every is_covered_share (out-Below b).parts.items && every (is_covered_by (spans_in (out-Below b).spans)) (flat_map shared_notes (out-Below b).parts.items))
+pub below_covered_out : (b : Below) → (below_told b).1 ≡ (every is_covered_share (items_in (out-Below b).parts) && every (is_covered_by (spans_in (out-Below b).spans)) (flat_map shared_notes (items_in (out-Below b).parts)))
 below_covered_out b = ap (λ x. (below_told x).1) (sym (roll-out-Below b)) ∙ below_covered_roll (out-Below b)
 
 -- ---- its own readings and those below
@@ -72,20 +90,20 @@ append_nil (x ∷ xs) = ap (λ ys. x ∷ ys) (append_nil xs)
 
 module _ (n : Node) where
   -- its own notes and those of its parts are all of them
-  pub with_parts : (b : Box Below Global) → (out-Node n).below ≡ Some b → node_notes n ≡ map note_of (items_in (out-Node n).own) ++ flat_map shared_notes (out-Below b.value).parts.items
+  pub with_parts : (b : Box Below Global) → (out-Node n).below ≡ Some b → node_notes n ≡ map note_of (items_in (out-Node n).own) ++ flat_map shared_notes (items_in (out-Below b.value).parts)
   with_parts b e = notes_out n ∙ ap (λ o. map note_of (items_in (out-Node n).own) ++ held_notes o) e ∙ ap (λ ns. map note_of (items_in (out-Node n).own) ++ ns) (below_out b.value)
 
   pub alone : (out-Node n).below ≡ None → node_notes n ≡ map note_of (items_in (out-Node n).own) ++ []
   alone e = notes_out n ∙ ap (λ o. map note_of (items_in (out-Node n).own) ++ held_notes o) e
 
-  covered_there : (b : Box Below Global) → (out-Node n).below ≡ Some b → is_covered n ≡ true → (every is_covered_share (out-Below b.value).parts.items && every (is_covered_by (spans_in (out-Below b.value).spans)) (flat_map shared_notes (out-Below b.value).parts.items)) ≡ true
+  covered_there : (b : Box Below Global) → (out-Node n).below ≡ Some b → is_covered n ≡ true → (every is_covered_share (items_in (out-Below b.value).parts) && every (is_covered_by (spans_in (out-Below b.value).spans)) (flat_map shared_notes (items_in (out-Below b.value).parts))) ≡ true
   covered_there b e h = sym (below_covered_out b.value) ∙ ap is_covered_below (sym e) ∙ sym (covered_out n) ∙ h
 
-  pub parts_covered : (b : Box Below Global) → (out-Node n).below ≡ Some b → is_covered n ≡ true → every is_covered_share (out-Below b.value).parts.items ≡ true
-  parts_covered b e h = left_is (every is_covered_share (out-Below b.value).parts.items) _ (covered_there b e h)
+  pub parts_covered : (b : Box Below Global) → (out-Node n).below ≡ Some b → is_covered n ≡ true → every is_covered_share (items_in (out-Below b.value).parts) ≡ true
+  parts_covered b e h = left_is (every is_covered_share (items_in (out-Below b.value).parts)) _ (covered_there b e h)
 
-  pub spans_cover : (b : Box Below Global) → (out-Node n).below ≡ Some b → is_covered n ≡ true → every (is_covered_by (spans_in (out-Below b.value).spans)) (flat_map shared_notes (out-Below b.value).parts.items) ≡ true
-  spans_cover b e h = right_is (every is_covered_share (out-Below b.value).parts.items) _ (covered_there b e h)
+  pub spans_cover : (b : Box Below Global) → (out-Node n).below ≡ Some b → is_covered n ≡ true → every (is_covered_by (spans_in (out-Below b.value).spans)) (flat_map shared_notes (items_in (out-Below b.value).parts)) ≡ true
+  spans_cover b e h = right_is (every is_covered_share (items_in (out-Below b.value).parts)) _ (covered_there b e h)
 
   -- ---- tests of all notes
 
@@ -93,11 +111,11 @@ module _ (n : Node) where
   every_alone p e = ap (every p) (alone e ∙ append_nil (map note_of (items_in (out-Node n).own)))
 
   pub every_with_parts : (p : Note → Bool) (b : Box Below Global) → (out-Node n).below ≡ Some b → every p (map note_of (items_in (out-Node n).own)) ≡ true
-      → every p (node_notes n) ≡ every p (flat_map shared_notes (out-Below b.value).parts.items)
+      → every p (node_notes n) ≡ every p (flat_map shared_notes (items_in (out-Below b.value).parts))
   every_with_parts p b e h =
       ap (every p) (with_parts b e)
-      ∙ every_append p (map note_of (items_in (out-Node n).own)) (flat_map shared_notes (out-Below b.value).parts.items)
-      ∙ ap (λ c. c && every p (flat_map shared_notes (out-Below b.value).parts.items)) h
+      ∙ every_append p (map note_of (items_in (out-Node n).own)) (flat_map shared_notes (items_in (out-Below b.value).parts))
+      ∙ ap (λ c. c && every p (flat_map shared_notes (items_in (out-Below b.value).parts))) h
 
   pub every_not_own : (p : Note → Bool) → every p (map note_of (items_in (out-Node n).own)) ≡ false → every p (node_notes n) ≡ false
   every_not_own p h =
@@ -111,10 +129,10 @@ module _ (n : Node) where
       (sym (every_append p (map note_of (items_in (out-Node n).own)) (held_notes (out-Node n).below)) ∙ sym (ap (every p) (notes_out n)) ∙ h)
 
   pub every_part : (p : Note → Bool) (b : Box Below Global) → (out-Node n).below ≡ Some b → every p (node_notes n) ≡ true
-      → every p (flat_map shared_notes (out-Below b.value).parts.items) ≡ true
+      → every p (flat_map shared_notes (items_in (out-Below b.value).parts)) ≡ true
   every_part p b e h =
-      right_is (every p (map note_of (items_in (out-Node n).own))) (every p (flat_map shared_notes (out-Below b.value).parts.items))
-      (sym (every_append p (map note_of (items_in (out-Node n).own)) (flat_map shared_notes (out-Below b.value).parts.items)) ∙ sym (ap (every p) (with_parts b e)) ∙ h)
+      right_is (every p (map note_of (items_in (out-Node n).own))) (every p (flat_map shared_notes (items_in (out-Below b.value).parts)))
+      (sym (every_append p (map note_of (items_in (out-Node n).own)) (flat_map shared_notes (items_in (out-Below b.value).parts))) ∙ sym (ap (every p) (with_parts b e)) ∙ h)
 
   -- ---- its notes are covered by spans that it is joined with
 
@@ -131,7 +149,7 @@ module _ (n : Node) where
       let more : (note : Note) → is_covered_by mid note ≡ true → is_covered_by new note ≡ true = λ note k. subst (λ ss. is_covered_by ss note ≡ true) (sym g) (keeps_all spans mid note k) in
       let put : (note : Note) → is_covered_by spans note ≡ true → is_covered_by new note ≡ true = λ note k. subst (λ ss. is_covered_by ss note ≡ true) (sym g) (adds_all spans mid note k) in
       every_with_parts (is_covered_by new) b e (every_weaker (is_covered_by mid) (is_covered_by new) (map note_of (items_in (out-Node n).own)) more (own_covered old mid f))
-      ∙ every_weaker (is_covered_by spans) (is_covered_by new) (flat_map shared_notes (out-Below b.value).parts.items) put (spans_cover b e h)
+      ∙ every_weaker (is_covered_by spans) (is_covered_by new) (flat_map shared_notes (items_in (out-Below b.value).parts)) put (spans_cover b e h)
 
 -- what was covered stays so, where more is put in
 pub still_covered : (old new more : List Span) → new ≡ put_spans old more → (note : Note) → is_covered_by old note ≡ true → is_covered_by new note ≡ true
@@ -160,11 +178,11 @@ moved_on before after p part whole items rest e f g h =
 
 -- the node's own notes are put behind the others, and then those of its parts
 pub put_with_parts : (n : Node) (b : Box Below Global) (old mid new : List Note) → (out-Node n).below ≡ Some b → mid ≡ old ++ map note_of (items_in (out-Node n).own)
-    → new ≡ mid ++ flat_map shared_notes (out-Below b.value).parts.items → new ≡ old ++ node_notes n
+    → new ≡ mid ++ flat_map shared_notes (items_in (out-Below b.value).parts) → new ≡ old ++ node_notes n
 put_with_parts n b old mid new e f g =
     g
-    ∙ ap (λ ns. ns ++ flat_map shared_notes (out-Below b.value).parts.items) f
-    ∙ append_assoc old (map note_of (items_in (out-Node n).own)) (flat_map shared_notes (out-Below b.value).parts.items)
+    ∙ ap (λ ns. ns ++ flat_map shared_notes (items_in (out-Below b.value).parts)) f
+    ∙ append_assoc old (map note_of (items_in (out-Node n).own)) (flat_map shared_notes (items_in (out-Below b.value).parts))
     ∙ ap (λ ns. old ++ ns) (sym (with_parts n b e))
 
 pub on_ok : {A E P Q : Type 0} (r : Result A E) → (P → Q) → OnOk r P → OnOk r Q

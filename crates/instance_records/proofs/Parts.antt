@@ -44,11 +44,11 @@ read_in_part (p ∷ ps) (suc k) part note l at e =
     read_append (shared_notes p) (flat_map shared_notes ps) note
     ∙ surely_behind (is_read (shared_notes p) note) (is_read (flat_map shared_notes ps) note) (read_in_part ps k part note (omega (arith, l)) at e)
 
-pub read_below : (n : Node) (note : Note) (b : Box Below Global) → (out-Node n).below ≡ Some b → is_read (flat_map shared_notes (out-Below b.value).parts.items) note ≡ true → is_read (node_notes n) note ≡ true
+pub read_below : (n : Node) (note : Note) (b : Box Below Global) → (out-Node n).below ≡ Some b → is_read (flat_map shared_notes (items_in (out-Below b.value).parts)) note ≡ true → is_read (node_notes n) note ≡ true
 read_below n note b at e =
     ap (λ ns. is_read ns note) (with_parts n b at)
-    ∙ read_append (map note_of (items_in (out-Node n).own)) (flat_map shared_notes (out-Below b.value).parts.items) note
-    ∙ surely_behind (is_read (map note_of (items_in (out-Node n).own)) note) (is_read (flat_map shared_notes (out-Below b.value).parts.items) note) e
+    ∙ read_append (map note_of (items_in (out-Node n).own)) (flat_map shared_notes (items_in (out-Below b.value).parts)) note
+    ∙ surely_behind (is_read (map note_of (items_in (out-Node n).own)) note) (is_read (flat_map shared_notes (items_in (out-Below b.value).parts)) note) e
 
 -- what all that was found of a list is in, and that in another
 pub read_further : {A : Type 0} (o : Option A) (f : A → List Note) (xs ys : List Note) → ((note : Note) → is_read xs note ≡ true → is_read ys note ≡ true) → IfSome o (λ x. (note : Note) → is_read (f x) note ≡ true → is_read xs note ≡ true)

@@ -43,8 +43,8 @@ node_step n = (map note_of (items_in n.own) ++ (held_told n.below).0, (held_told
 -- what is below a node, with what is told of each part
 abbrev pub below_step : Below-F Told Told → Told
 below_step b =
-    let notes = flat_map (λ (p : Arc Told Global). (arc_value p).0) b.parts.items in
-    (notes, every (λ (p : Arc Told Global). (arc_value p).1) b.parts.items && every (is_covered_by (spans_in b.spans)) notes)
+    let notes = flat_map (λ (p : Arc Told Global). (arc_value p).0) (items_in b.parts) in
+    (notes, every (λ (p : Arc Told Global). (arc_value p).1) (items_in b.parts) && every (is_covered_by (spans_in b.spans)) notes)
 
 abbrev pub node_told : Node → Told
 node_told = fold-Node Told Told below_step node_step

@@ -11,6 +11,7 @@ use crate::few_spans::FewSpans;
 use crate::full::Full;
 use crate::lines::put_lines;
 use crate::readings::{Below, Node, Readings};
+use crate::short_list::ShortList;
 use crate::spans::{Span, put_read, put_spans};
 use std::alloc::{AllocError, Global};
 use std::sync::Arc;
@@ -32,7 +33,8 @@ pub(crate) fn make_below(
     }
     let mut spans = Vec::with_capacity(alloc, TABLES)?;
     let mut full = Full::none();
-    let parts = nodes(alloc, parts, &mut spans, &mut full)?;
+    let list = nodes(alloc, parts, &mut spans, &mut full)?;
+    let parts = ShortList::packed(list);
     let spans = FewSpans::packed(spans);
     let below = Below { parts, spans, full };
     Ok(Some(Box::new(alloc, below)?))

@@ -30,7 +30,7 @@ pub(crate) fn lowest<'a>(node: &'a Node, change: &(usize, i64)) -> &'a Node
             if are_own_touched(node.own.as_slice(), slice::from_ref(change)) {
                 return node;
             }
-            lowest_of(&below.parts, node, change)
+            lowest_of(below.parts.as_slice(), node, change)
         }
         None => node,
     }

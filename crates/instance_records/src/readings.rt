@@ -54,7 +54,7 @@ pub(crate) struct Node {
 #[cycle(parts)]
 #[derive(Drop)]
 pub(crate) struct Below {
-    pub(crate) parts: Vec<Arc<Node>>,
+    pub(crate) parts: ShortList<Arc<Node>>,
     pub(crate) spans: FewSpans,
     pub(crate) full: Full,
 }
@@ -479,7 +479,7 @@ pub(crate) fn node_has(node: &Node, note: &Note) -> bool
     match &node.below {
         Some(below) => {
             if may_have(below.spans.as_slice(), note) {
-                parts_have(&below.parts, note)
+                parts_have(below.parts.as_slice(), note)
             } else {
                 false
             }

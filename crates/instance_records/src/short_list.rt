@@ -43,6 +43,24 @@ impl<T> ShortList<T> {
     }
 }
 
+impl<T: Drop> ShortList<T> {
+    /// The list of these items, where two lie by themselves.
+    pub(crate) fn packed(items: Vec<T>) -> ShortList<T>
+        ensures same { items_in result ≡ items.items }
+    {
+        let mut items = items;
+        if items.len() != 2 {
+            return ShortList::Several(items);
+        }
+        let second = items.pop();
+        let first = items.pop();
+        match (first, second) {
+            (Some(first), Some(second)) => ShortList::Two([first, second]),
+            _ => unreachable!(),
+        }
+    }
+}
+
 impl<T: Copy> ShortList<T> {
     /// Copies of these items, without spare room. Want of memory is the only error.
     #[inline(always)]

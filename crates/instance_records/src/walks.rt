@@ -23,7 +23,7 @@ pub(crate) fn node_agrees(node: &Node, tables: &Tables) -> bool
         return false;
     }
     match &node.below {
-        Some(below) => parts_agree(&below.parts, tables),
+        Some(below) => parts_agree(below.parts.as_slice(), tables),
         None => true,
     }
 }
@@ -47,7 +47,7 @@ pub(crate) fn put_notes(node: &Node, notes: &mut Vec<Note>) -> Result<(), AllocE
 {
     put_own(node.own.as_slice(), notes)?;
     match &node.below {
-        Some(below) => put_parts(&below.parts, notes),
+        Some(below) => put_parts(below.parts.as_slice(), notes),
         None => Ok(()),
     }
 }

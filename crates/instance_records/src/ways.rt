@@ -47,7 +47,7 @@ fn way_from(node: &Node, change: &(usize, i64), turns: u64, unit: u64) -> u64 {
             if are_own_touched(node.own.as_slice(), slice::from_ref(change)) {
                 return turns.wrapping_add(unit);
             }
-            way_through(&below.parts, change, turns, unit)
+            way_through(below.parts.as_slice(), change, turns, unit)
         }
         None => turns.wrapping_add(unit),
     }
@@ -113,7 +113,7 @@ fn node_by(node: &Node, turns: u64) -> &Node
         return node;
     }
     match &node.below {
-        Some(below) => node_of(&below.parts, node, turns),
+        Some(below) => node_of(below.parts.as_slice(), node, turns),
         None => node,
     }
 }

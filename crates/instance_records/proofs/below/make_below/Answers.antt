@@ -1,4 +1,5 @@
 use Rattle.std.proofs.Common.{◌≡◌, true, ap, sym, subst, ◌∙◌}
+use Rattle.std.specs.Prelude.{◌&&◌}
 use Rattle.std.specs.List.{flat_map}
 use Rattle.meaning.specs.Every.{every}
 use Rattle.instance_records.specs.Spans.{is_covered_by, spans_in}
@@ -11,18 +12,20 @@ use Rattle.instance_records.proofs.below.make_below.Goals as goal
 pub returns-clause-below : goal.returns-clause-below
 returns-clause-below c =
     ap (λ b. (below_told b).0) c.in_ok-new.ensures.ok
-    ∙ below_roll (record { parts = c.in_ok-parts.parts; spans = c.packed-spans.result; full = c.nodes.new.full })
-    ∙ c.in_ok-parts.ensures.nodes
+    ∙ below_roll (record { parts = c.packed-parts.result; spans = c.packed-spans.result; full = c.nodes.new.full })
+    ∙ ap (flat_map shared_notes) c.packed-parts.ensures.same
+    ∙ c.in_ok-list.ensures.nodes
 
 pub returns-clause-covered : goal.returns-clause-covered
 returns-clause-covered c =
-    let parts = c.in_ok-parts.parts.items in
+    let list = c.in_ok-list.list.items in
     ap (λ b. (below_told b).1) c.in_ok-new.ensures.ok
-    ∙ below_covered_roll (record { parts = c.in_ok-parts.parts; spans = c.packed-spans.result; full = c.nodes.new.full })
-    ∙ both (every is_covered_share parts) (every (is_covered_by (spans_in c.packed-spans.result)) (flat_map shared_notes parts)) c.in_ok-parts.ensures.each
-    (subst (λ ss. every (is_covered_by ss) (flat_map shared_notes parts) ≡ true) (sym c.packed-spans.ensures.same) c.in_ok-parts.ensures.spans)
+    ∙ below_covered_roll (record { parts = c.packed-parts.result; spans = c.packed-spans.result; full = c.nodes.new.full })
+    ∙ ap (λ ps. every is_covered_share ps && every (is_covered_by (spans_in c.packed-spans.result)) (flat_map shared_notes ps)) c.packed-parts.ensures.same
+    ∙ both (every is_covered_share list) (every (is_covered_by (spans_in c.packed-spans.result)) (flat_map shared_notes list)) c.in_ok-list.ensures.each
+    (subst (λ ss. every (is_covered_by ss) (flat_map shared_notes list) ≡ true) (sym c.packed-spans.ensures.same) c.in_ok-list.ensures.spans)
 
 pub returns-clause-full : goal.returns-clause-full
 returns-clause-full c =
-    below_is_full c.in_ok-new.field-0.value (record { parts = c.in_ok-parts.parts; spans = c.packed-spans.result; full = c.nodes.new.full }) (all_of c.args.parts.items) c.in_ok-new.ensures.ok
-    c.in_ok-parts.ensures.nodes c.in_ok-parts.ensures.full
+    below_is_full c.in_ok-new.field-0.value (record { parts = c.packed-parts.result; spans = c.packed-spans.result; full = c.nodes.new.full }) (all_of c.args.parts.items) c.in_ok-new.ensures.ok
+    (ap (flat_map shared_notes) c.packed-parts.ensures.same ∙ c.in_ok-list.ensures.nodes) c.in_ok-list.ensures.full

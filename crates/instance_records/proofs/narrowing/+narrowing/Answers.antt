@@ -1,6 +1,7 @@
 use Rattle.std.proofs.Common.{rules, [], ◌∷◌, map, ap, sym, ◌∙◌, ◌+◌, arith}
 use Rattle.std.specs.List.{flat_map, list_any}
 use Rattle.meaning.specs.Every.{every}
+use Rattle.instance_records.specs.ShortLists.{items_in}
 use Rattle.instance_records.specs.declared.readings.Below.{out-Below}
 use Rattle.instance_records.specs.declared.readings.Below.TheViews.{the_lemmas}
 use Rattle.evaluation.specs.Short.{note_of}
@@ -14,7 +15,7 @@ use Rattle.instance_records.proofs.narrowing.+narrowing.Goals as goal
 pub lowest-lowest_of-requires : goal.lowest-lowest_of-requires
 lowest-lowest_of-requires t c =
     let node = c.args.node.now in
-    let parts = c.deref-in-Some.ensures.value ∙ ap (λ b. (out-Below b).parts.items) c.deref.ensures in
+    let parts = c.as_slice-in-Some.ensures.items ∙ ap (λ b. items_in (out-Below b).parts) c.deref.ensures in
     let untouched =
     ap (λ rs. list_any (λ note. list_any (rests_on note) c.from_ref.result.now) (map note_of rs)) (sym c.as_slice.ensures.items)
     ∙ sym c.are_own_touched.ensures.touched

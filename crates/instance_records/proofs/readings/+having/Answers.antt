@@ -1,6 +1,7 @@
 use Rattle.std.proofs.Common.{rules, ap, sym, map, ◌∙◌}
 use Rattle.std.specs.List.{flat_map}
 use Rattle.meaning.specs.Every.{every}
+use Rattle.instance_records.specs.ShortLists.{items_in}
 use Rattle.instance_records.specs.declared.readings.Below.{out-Below}
 use Rattle.instance_records.specs.declared.readings.Below.TheViews.{the_lemmas}
 use Rattle.evaluation.specs.Short.{note_of}
@@ -17,7 +18,7 @@ node_has-returns-then-has_own t c =
 
 pub node_has-parts_have-requires : goal.node_has-parts_have-requires
 node_has-parts_have-requires t c =
-    let parts = c.deref-then-may_have-2.ensures.value ∙ ap (λ b. (out-Below b).parts.items) c.deref-then-may_have.ensures in (
+    let parts = c.as_slice-then-may_have.ensures.items ∙ ap (λ b. items_in (out-Below b).parts) c.deref-then-may_have.ensures in (
       search (rules, the_lemmas),
       ap (every is_covered_share) parts ∙ parts_covered c.args.node.now c.in-Some.below c.in-Some.is c.requires.covered,
     )
@@ -28,7 +29,7 @@ node_has-returns-then-may_have t c =
     record {
       has =
           c.parts_have.ensures.have
-          ∙ ap (λ ps. is_read (flat_map shared_notes ps) c.args.note.now) (c.deref-then-may_have-2.ensures.value ∙ ap (λ b. (out-Below b).parts.items) c.deref-then-may_have.ensures)
+          ∙ ap (λ ps. is_read (flat_map shared_notes ps) c.args.note.now) (c.as_slice-then-may_have.ensures.items ∙ ap (λ b. items_in (out-Below b).parts) c.deref-then-may_have.ensures)
           ∙ sym (read_in_parts c.args.node.now c.args.note.now c.in-Some.below c.in-Some.is own);
     }
 

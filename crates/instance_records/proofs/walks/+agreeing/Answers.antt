@@ -1,6 +1,7 @@
 use Rattle.std.proofs.Common.{ap, sym, map, ◌∙◌}
 use Rattle.std.specs.List.{flat_map}
 use Rattle.meaning.specs.Every.{every}
+use Rattle.instance_records.specs.ShortLists.{items_in}
 use Rattle.instance_records.specs.declared.readings.Below.{out-Below}
 use Rattle.evaluation.specs.Short.{note_of}
 use Rattle.instance_records.specs.Readings.{shared_notes}
@@ -15,6 +16,6 @@ node_agrees-returns-in-Some t c =
     record {
       agrees =
           c.parts_agree.ensures.agree
-          ∙ ap (λ ps. every p (flat_map shared_notes ps)) (c.deref-in-Some.ensures.value ∙ ap (λ b. (out-Below b).parts.items) c.deref.ensures)
+          ∙ ap (λ ps. every p (flat_map shared_notes ps)) (c.as_slice-in-Some.ensures.items ∙ ap (λ b. items_in (out-Below b).parts) c.deref.ensures)
           ∙ sym (every_with_parts c.args.node.now p c.in-Some.below c.in-Some.is own);
     }

@@ -1,5 +1,6 @@
 use Rattle.std.proofs.Common.{rules, ap, subst, arith, ◌∙◌, ◌≡◌, true}
 use Rattle.std.specs.List.{flat_map}
+use Rattle.instance_records.specs.ShortLists.{items_in}
 use Rattle.instance_records.specs.declared.readings.Below.{out-Below}
 use Rattle.instance_records.specs.declared.readings.Below.TheViews.{the_lemmas}
 use Rattle.instance_records.specs.Readings.{node_notes, shared_notes}
@@ -9,7 +10,7 @@ use Rattle.instance_records.proofs.ways.+ways.Goals as goal
 
 pub node_by-node_of-requires : goal.node_by-node_of-requires
 node_by-node_of-requires t c =
-    let parts = c.deref-in-Some.ensures.value ∙ ap (λ b. (out-Below b).parts.items) c.deref.ensures in (
+    let parts = c.as_slice.ensures.items ∙ ap (λ b. items_in (out-Below b).parts) c.deref.ensures in (
       search (rules, the_lemmas),
       λ note e. read_below c.args.node.now note c.in-Some.below c.in-Some.is (subst (λ ps. is_read (flat_map shared_notes ps) note ≡ true) parts e),
     )
