@@ -1,5 +1,5 @@
 -- The notes of a node and of all below it, one level at a time.
-use Rattle.std.proofs.Common.{◌≡◌, Bool, true, false, List, [], ◌∷◌, map, ◌++◌, refl, sym, ap, ◌∙◌, append_assoc, subst, Option, Some, None, Result, Ok, Err, OnOk}
+use Rattle.std.proofs.Common.{◌≡◌, ℤ, Bool, true, false, List, [], ◌∷◌, map, ◌++◌, refl, sym, ap, ◌∙◌, append_assoc, subst, Option, Some, None, Result, Ok, Err, OnOk}
 use Rattle.std.specs.Prelude.{◌&&◌, Box}
 use Rattle.std.specs.declared.alloc.Global.{Global}
 use Rattle.std.specs.declared.sync.Arc.{Arc}
@@ -53,25 +53,25 @@ told_same : (spans : FewSpans) (a b : Bool) (xs ys : List Note) → a ≡ b → 
 told_same spans a b xs ys e f =
     ap (λ c. told_of xs (c && every (is_covered_by (spans_in spans)) xs)) e ∙ ap (λ zs. told_of zs (b && every (is_covered_by (spans_in spans)) zs)) f
 
-parts_roll : (parts : ShortList (Arc Node Global)) (spans : FewSpans) (full : Full) → below_told (roll-Below (record { parts = parts; spans = spans; full = full }))
+parts_roll : (parts : ShortList (Arc Node Global)) (from : ℤ) (spans : FewSpans) (full : Full) → below_told (roll-Below (record { parts = parts; last_from = from; spans = spans; full = full }))
     ≡ (flat_map shared_notes (items_in parts), every is_covered_share (items_in parts) && every (is_covered_by (spans_in spans)) (flat_map shared_notes (items_in parts)))
-parts_roll (One item) spans full = fold-roll-Below Told Told below_step node_step (record { parts = One item; spans = spans; full = full })
-parts_roll (Two pair) spans full =
-    fold-roll-Below Told Told below_step node_step (record { parts = Two pair; spans = spans; full = full })
+parts_roll (One item) from spans full = fold-roll-Below Told Told below_step node_step (record { parts = One item; last_from = from; spans = spans; full = full })
+parts_roll (Two pair) from spans full =
+    fold-roll-Below Told Told below_step node_step (record { parts = Two pair; last_from = from; spans = spans; full = full })
     ∙ told_same spans _ _ _ _
     (sym (every_mapped (λ (p : Arc Told Global). (arc_value p).1) is_covered_share _ pair (λ p. refl)))
     (flat_map-map (λ (p : Arc Told Global). (arc_value p).0) _ pair)
-parts_roll (Several items) spans full =
-    fold-roll-Below Told Told below_step node_step (record { parts = Several items; spans = spans; full = full })
+parts_roll (Several items) from spans full =
+    fold-roll-Below Told Told below_step node_step (record { parts = Several items; last_from = from; spans = spans; full = full })
     ∙ told_same spans _ _ _ _
     (sym (every_mapped (λ (p : Arc Told Global). (arc_value p).1) is_covered_share _ items.items (λ p. refl)))
     (flat_map-map (λ (p : Arc Told Global). (arc_value p).0) _ items.items)
 
 pub below_roll : (x : Below-F Below Node) → (below_told (roll-Below x)).0 ≡ flat_map shared_notes (items_in x.parts)
-below_roll x = ap (λ t. t.0) (parts_roll x.parts x.spans x.full)
+below_roll x = ap (λ t. t.0) (parts_roll x.parts x.last_from x.spans x.full)
 
 pub below_covered_roll : (x : Below-F Below Node) → (below_told (roll-Below x)).1 ≡ (every is_covered_share (items_in x.parts) && every (is_covered_by (spans_in x.spans)) (flat_map shared_notes (items_in x.parts)))
-below_covered_roll x = ap (λ t. t.1) (parts_roll x.parts x.spans x.full)
+below_covered_roll x = ap (λ t. t.1) (parts_roll x.parts x.last_from x.spans x.full)
 
 pub below_out : (b : Below) → (below_told b).0 ≡ flat_map shared_notes (items_in (out-Below b).parts)
 below_out b = ap (λ x. (below_told x).0) (sym (roll-out-Below b)) ∙ below_roll (out-Below b)

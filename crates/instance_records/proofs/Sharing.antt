@@ -19,6 +19,7 @@ node_send =
     both_send-Node
     (λ h s y. search (sendable, crosses) depth 20)
     (λ h s y. search (sendable, crosses) depth 20)
+    (search (sendable, crosses) depth 20) (search (sendable, crosses) depth 20)
     few.the_field_send few.the_field_sync
     fulls.the_field_send fulls.the_field_sync
     (search (sendable, crosses, reading.the_send) depth 20) (search (sendable, crosses, reading.the_sync) depth 20)
@@ -30,6 +31,7 @@ node_sync =
     both_sync-Node
     (λ h s y. search (sendable, crosses) depth 20)
     (λ h s y. search (sendable, crosses) depth 20)
+    (search (sendable, crosses) depth 20) (search (sendable, crosses) depth 20)
     few.the_field_send few.the_field_sync
     fulls.the_field_send fulls.the_field_sync
     (search (sendable, crosses, reading.the_send) depth 20) (search (sendable, crosses, reading.the_sync) depth 20)

@@ -13,6 +13,7 @@ use crate::lines::put_lines;
 use crate::readings::{Below, Node, Readings};
 use crate::short_list::ShortList;
 use crate::spans::{Span, put_read, put_spans};
+use crate::ways::last_from;
 use std::alloc::{AllocError, Global};
 use std::sync::Arc;
 
@@ -34,9 +35,15 @@ pub(crate) fn make_below(
     let mut spans = Vec::with_capacity(alloc, TABLES)?;
     let mut full = Full::none();
     let list = nodes(alloc, parts, &mut spans, &mut full)?;
+    let last_from = last_from(&list);
     let parts = ShortList::packed(list);
     let spans = FewSpans::packed(spans);
-    let below = Below { parts, spans, full };
+    let below = Below {
+        parts,
+        last_from,
+        spans,
+        full,
+    };
     Ok(Some(Box::new(alloc, below)?))
 }
 

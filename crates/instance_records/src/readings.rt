@@ -49,12 +49,13 @@ pub(crate) struct Node {
     pub(crate) below: Option<Box<Below>>,
 }
 
-/// The parts, which are some, spans of rows that hold all that they and those below them have read, and rows of which they have read the
-/// cells.
+/// The parts, which are some, the row from which on the last one alone has read, spans of rows that hold all that they and those below
+/// them have read, and rows of which they have read the cells.
 #[cycle(parts)]
 #[derive(Drop)]
 pub(crate) struct Below {
     pub(crate) parts: ShortList<Arc<Node>>,
+    pub(crate) last_from: i64,
     pub(crate) spans: FewSpans,
     pub(crate) full: Full,
 }

@@ -173,6 +173,18 @@ impl Span {
             && (self.whole || !other.whole && self.low <= other.low && other.high <= self.high)
     }
 
+    /// Whether its rows, of which none is unknown, come before those of the other, of the same table.
+    #[inline(always)]
+    pub(crate) fn is_before(&self, other: &Span) -> bool {
+        self.table == other.table && !self.whole && !other.whole && self.high < other.low
+    }
+
+    /// The lowest row.
+    #[inline(always)]
+    pub(crate) fn low(&self) -> i64 {
+        self.low
+    }
+
     // Whether it is one of the table of that number.
     fn is_of(&self, table: usize) -> bool
         ensures of { result ≡ nat_eq self.now.table table }

@@ -7,8 +7,9 @@ ghost use Rattle.evaluation.specs.Short.{note_of};
 ghost use Rattle.instance_records.specs.Readings.{node_notes, shared_notes};
 ghost use Rattle.record_theory.specs.Same.{is_read, same_note};
 
+use crate::few_spans::FewSpans;
 use crate::readings::Node;
-use crate::spans::are_touched;
+use crate::spans::{Span, are_touched};
 use crate::touching::are_own_touched;
 use evaluation::reading::Reading;
 use std::slice;
@@ -47,21 +48,78 @@ fn way_from(node: &Node, change: &(usize, i64), turns: u64, unit: u64) -> u64 {
             if are_own_touched(node.own.as_slice(), slice::from_ref(change)) {
                 return turns.wrapping_add(unit);
             }
-            way_through(below.parts.as_slice(), change, turns, unit)
+            way_through(below.parts.as_slice(), below.last_from, change, turns, unit)
         }
         None => turns.wrapping_add(unit),
     }
 }
 
 #[cycle(finding)]
-fn way_through(parts: &[Arc<Node>], change: &(usize, i64), turns: u64, unit: u64) -> u64 {
-    let place = first_near(parts, change);
+fn way_through(
+    parts: &[Arc<Node>],
+    last_from: i64,
+    change: &(usize, i64),
+    turns: u64,
+    unit: u64,
+) -> u64 {
+    let place = near_by(parts, last_from, change);
     let turn = place as u64;
     if place >= parts.len() || turn >= PARTS || unit >= MOST {
         return NONE;
     }
     let more = turns.wrapping_add(unit.wrapping_mul(turn));
     way_from(&parts[place], change, more, unit.wrapping_mul(PARTS))
+}
+
+// The first of the parts in which the change may have changed what was read, or the last. Of two parts none has to be asked, where it is known
+// from which row on the second one has read: so neither's spans are fetched from memory.
+#[inline(always)]
+fn near_by(parts: &[Arc<Node>], last_from: i64, change: &(usize, i64)) -> usize {
+    if change.1 >= last_from {
+        return parts.len().saturating_sub(1);
+    }
+    if last_from < i64::MAX && parts.len() == 2 {
+        return 0;
+    }
+    first_near(parts, change)
+}
+
+/// The row from which on the last of these parts alone has read, where each of them has read rows of one table, and the last one later rows
+/// than the others; else no row comes so late.
+pub(crate) fn last_from(parts: &[Arc<Node>]) -> i64 {
+    let last = parts.len().saturating_sub(1);
+    if last == 0 {
+        return i64::MAX;
+    }
+    let Some(span) = one_span(&parts[last]) else {
+        return i64::MAX;
+    };
+    for part in &parts[..last] {
+        match one_span(part) {
+            Some(before) => {
+                if !before.is_before(span) {
+                    return i64::MAX;
+                }
+            }
+            None => return i64::MAX,
+        }
+    }
+    span.low()
+}
+
+// The one span of what was read below, where the instance itself has read nothing.
+#[inline(always)]
+fn one_span(node: &Node) -> Option<&Span> {
+    if !node.own.as_slice().is_empty() {
+        return None;
+    }
+    match &node.below {
+        Some(below) => match &below.spans {
+            FewSpans::One(span) => Some(span),
+            FewSpans::Several(_) => None,
+        },
+        None => None,
+    }
 }
 
 // The first of the parts in which the change may have changed what was read, or the last: it needn't be asked, as it is gone down anyway.

@@ -12,7 +12,7 @@ use Rattle.instance_records.proofs.below.make_below.Goals as goal
 pub returns-clause-below : goal.returns-clause-below
 returns-clause-below c =
     ap (λ b. (below_told b).0) c.in_ok-new.ensures.ok
-    ∙ below_roll (record { parts = c.packed-parts.result; spans = c.packed-spans.result; full = c.nodes.new.full })
+    ∙ below_roll _
     ∙ ap (flat_map shared_notes) c.packed-parts.ensures.same
     ∙ c.in_ok-list.ensures.nodes
 
@@ -20,12 +20,12 @@ pub returns-clause-covered : goal.returns-clause-covered
 returns-clause-covered c =
     let list = c.in_ok-list.list.items in
     ap (λ b. (below_told b).1) c.in_ok-new.ensures.ok
-    ∙ below_covered_roll (record { parts = c.packed-parts.result; spans = c.packed-spans.result; full = c.nodes.new.full })
+    ∙ below_covered_roll _
     ∙ ap (λ ps. every is_covered_share ps && every (is_covered_by (spans_in c.packed-spans.result)) (flat_map shared_notes ps)) c.packed-parts.ensures.same
     ∙ both (every is_covered_share list) (every (is_covered_by (spans_in c.packed-spans.result)) (flat_map shared_notes list)) c.in_ok-list.ensures.each
     (subst (λ ss. every (is_covered_by ss) (flat_map shared_notes list) ≡ true) (sym c.packed-spans.ensures.same) c.in_ok-list.ensures.spans)
 
 pub returns-clause-full : goal.returns-clause-full
 returns-clause-full c =
-    below_is_full c.in_ok-new.field-0.value (record { parts = c.packed-parts.result; spans = c.packed-spans.result; full = c.nodes.new.full }) (all_of c.args.parts.items) c.in_ok-new.ensures.ok
+    below_is_full c.in_ok-new.field-0.value _ (all_of c.args.parts.items) c.in_ok-new.ensures.ok
     (ap (flat_map shared_notes) c.packed-parts.ensures.same ∙ c.in_ok-list.ensures.nodes) c.in_ok-list.ensures.full
