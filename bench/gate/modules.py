@@ -57,7 +57,7 @@ class Watched:
     at last, by the clock and by the processor."""
 
     def __init__(self, process):
-        self.process, self.modules, self.at = process, {}, (time.time(), processor(process))
+        self.process, self.modules, self.noted, self.at = process, {}, 0, (time.time(), processor(process))
 
     def look(self, folder):
         clock, seconds = self.at
@@ -89,8 +89,10 @@ def watch(folder):
     while True:
         look(found)
         for check, watched_one in found.items():
-            with open(f"{folder}/{check}.json", "w", encoding="utf-8") as it:
-                json.dump(watched_one.modules, it)
+            if watched_one.noted < len(watched_one.modules):
+                with open(f"{folder}/{check}.json", "w", encoding="utf-8") as it:
+                    json.dump(watched_one.modules, it)
+                watched_one.noted = len(watched_one.modules)
         time.sleep(1)
 
 
