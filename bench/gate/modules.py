@@ -9,7 +9,10 @@ usage: bench/gate/modules.py CRATE [HOW MANY]              of the crate's last c
                                                            second of its processor its modules are saved, in FOLDER/CRATE.json or
                                                            CRATE.tests.json
        bench/gate/modules.py FOLDER/CRATE.json [HOW MANY]  of a check that was watched
+       bench/gate/modules.py --megabytes CRATE [HOW MANY]  how large the modules are that its last check here has left, or else those that
+                                                           tools/check.py keeps: some 0.7 s each, whatever else the machine does
 """
+import glob
 import json
 import os
 import re
@@ -18,6 +21,7 @@ import time
 
 TOP = os.path.dirname(os.path.dirname(os.path.dirname(os.path.realpath(__file__))))
 TEMPORARY = os.environ.get("TMPDIR", "/tmp")
+KEPT_IN = os.environ.get("HEARTSPLUM_LIBRARIES", os.path.expanduser("~/.cache/heartsplum"))
 
 
 def saved(crate):
@@ -105,18 +109,27 @@ def function_of(module, crate):
     return ".".join(parts[:-1]) or inside
 
 
-def show(crate, modules, most):
-    took = [(end - begun, module) for (begun, _), (end, module) in zip(modules, modules[1:])]
+def sizes(crate):
+    """The modules that are left of the crate's last check here, or else those that are kept, each with its megabytes."""
+    for folder in [*glob.glob(f"{TOP}/crates/{crate}/out/incremental/antt-checked-*"), f"{KEPT_IN}/{crate}/modules"]:
+        if os.path.isdir(folder):
+            found = [(entry.stat().st_size / 1e6, entry.name.removesuffix(".oantt")) for entry in os.scandir(folder)]
+            return [it for it in found if re.match(rf"Rattle-{crate}-(proofs|specs)\.", it[1])]
+    return []
+
+
+def show(crate, took, most, unit):
+    """Prints what the functions take most of, and the modules."""
     functions = {}
-    for seconds, module in took:
+    for amount, module in took:
         name = function_of(module, crate)
-        functions[name] = functions.get(name, 0.0) + seconds
-    print(f"{len(modules)} modules in {modules[-1][0] - modules[0][0]:.0f} s\n")
-    for name, seconds in sorted(functions.items(), key=lambda it: -it[1])[:most]:
-        print(f"{seconds:7.1f} {name}")
+        functions[name] = functions.get(name, 0.0) + amount
+    print(f"{len(took)} modules with {sum(amount for amount, _ in took):.0f} {unit}\n")
+    for name, amount in sorted(functions.items(), key=lambda it: -it[1])[:most]:
+        print(f"{amount:7.1f} {name}")
     print()
-    for seconds, module in sorted(took, reverse=True)[:most]:
-        print(f"{seconds:7.1f} {module}")
+    for amount, module in sorted(took, reverse=True)[:most]:
+        print(f"{amount:7.1f} {module}")
 
 
 def main(words):
@@ -124,12 +137,17 @@ def main(words):
         sys.exit(__doc__)
     if words[0] == "--watch":
         return watch(words[1])
-    of_file = words[0].endswith(".json")
-    crate = os.path.basename(words[0]).split(".")[0]
-    modules = watched(words[0]) if of_file else saved(crate)
+    by_size = words[0] == "--megabytes"
+    of, *rest = words[by_size:]
+    most = int(rest[0]) if rest else 20
+    crate = os.path.basename(of).split(".")[0]
+    if by_size:
+        show(crate, sizes(crate), most, "MB")
+        return 0
+    modules = watched(of) if of.endswith(".json") else saved(crate)
     if len(modules) < 2:
-        sys.exit(f"{words[0]} has no modules" if of_file else f"no check of {crate} has left its modules in crates/{crate}/out/incremental")
-    show(crate, modules, int(words[1]) if len(words) > 1 else 20)
+        sys.exit(f"{of} has no modules" if of.endswith(".json") else f"no check of {crate} has left its modules in crates/{crate}/out/incremental")
+    show(crate, [(end - begun, module) for (begun, _), (end, module) in zip(modules, modules[1:])], most, "s")
     return 0
 
 
