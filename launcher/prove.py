@@ -5,8 +5,8 @@
 they count, so a proof that nothing else runs beside gets one processor alone. Here they come after all others, but for those
 of crates with edits, which wait for them. And a proof keeps the processors that it began with, of which a large one gets one,
 since each is reckoned to take the memory that the first one does. Here each proof of the longest chain, and of those that are
-nearly as long, gets two where memory holds them, if there are four and no other task that could be at work would wait for one:
-two jobs take a third more than one for the same work, and four no more than two. Others get one. A program comes before the tests
+nearly as long, gets two where there are four processors and memory holds them: the second shares what the first has loaded. More
+would take processors from other proofs, and each takes a tenth more of them for the same work. A program comes before the tests
 that are ready by then, which would go first, being longer: its sessions and figures wait for it. Must-fail edits are tried together,
 over what the crate's proof has checked (launcher/together.py). And what is below a crate is found once, which rt finds anew at
 each look, a minute and a half in all before its first proof.
@@ -26,7 +26,7 @@ from proved_modules import ProvedModules  # noqa: E402
 # What the first job of a proof takes of memory at most, and what each further one takes beside it, in bytes.
 FIRST, FURTHER = 3_500_000_000, 1_000_000_000
 # What part of the longest chain's work makes another one long.
-LONG = 0.95
+LONG = 0.85
 # How many jobs a proof of a long chain has at most, and for how many processors it has each.
 MOST, EACH = 2, 2
 
@@ -72,29 +72,22 @@ def on_long_chains(tasks):
     return {name for name in long if kind_of(name) in ("proof", "tests")}
 
 
-def is_idle(rt, tasks, given):
-    """Whether each task that is at work, or could be, has a processor of its own, by what the tasks so far have given."""
-    open_ones = [name for name, (before, *_) in tasks.items() if name not in given and all(other in given for other in before)]
-    return len(open_ones) <= rt.processors()
+def with_jobs(rt, call):
+    """The same call with more jobs, as many as the memory that is free now holds."""
+
+    def run(given, jobs):
+        held = 1 + int((rt.free() - FIRST) / FURTHER)
+        return call(given, max(jobs, min(MOST, rt.processors() // EACH, held)))
+
+    return run
 
 
-def more(rt, jobs):
-    """So many jobs, or more, as many as the memory that is free now holds."""
-    held = 1 + int((rt.free() - FIRST) / FURTHER)
-    return max(jobs, min(MOST, rt.processors() // EACH, held))
-
-
-def with_jobs(rt, tasks, chains):
-    """The tasks, where the proofs and tests of these chains have more jobs as long as processors would have nothing else to do, and others one."""
-
-    def call_of(name, call):
-        def run(given, jobs):
-            return call(given, more(rt, jobs) if name in chains and is_idle(rt, tasks, given) else 1)
-
-        return run
-
+def chain_first(rt, tasks):
+    """The tasks, where those of the longest chains have more jobs."""
+    chains = on_long_chains(tasks)
     return {
-        name: (*task, call_of(name, call) if kind_of(name) in ("proof", "tests") else call) for name, (*task, call) in tasks.items()
+        name: (before, work, needs, with_jobs(rt, call) if name in chains else call)
+        for name, (before, work, needs, call) in tasks.items()
     }
 
 
@@ -124,7 +117,7 @@ def work_first(rt, in_lanes):
     def run(tasks):
         behind = without_work(tasks)
         left = {name: task for name, task in tasks.items() if name not in behind}
-        given = in_lanes(with_jobs(rt, together.behind_proofs(programs_first(left)), on_long_chains(left)))
+        given = in_lanes(together.behind_proofs(programs_first(chain_first(rt, left))))
         for name in behind:
             *_, call = tasks[name]
             given[name] = call(given, 1)
