@@ -248,6 +248,11 @@ impl Blocks {
         self.due.are_all()
     }
 
+    /// Whether many places are due: edits have dropped many blocks, or many records were put in.
+    pub(crate) fn are_many_due(&self) -> bool {
+        self.due.has_many()
+    }
+
     /// Takes out the places of records that may be put into blocks.
     pub(crate) fn take_due(&mut self, alloc: Global) -> Vec<u32>
         ensures same { self.new ≡ self.old }

@@ -2,6 +2,9 @@
 use std::alloc::Global;
 use std::mem;
 
+/// So many places are many.
+const MANY: usize = 256;
+
 /// Places, maybe some twice; or all, where there was no room for one more.
 #[derive(Drop)]
 pub(crate) struct Due {
@@ -44,6 +47,11 @@ impl Due {
     /// Whether all places are noted, in place of the listed ones.
     pub(crate) fn are_all(&self) -> bool {
         self.all
+    }
+
+    /// Whether many places are listed. It takes no look at them.
+    pub(crate) fn has_many(&self) -> bool {
+        self.places.len() >= MANY
     }
 
     /// Takes the listed places out, and none is noted any more; where memory is refused all are noted, and none is listed.

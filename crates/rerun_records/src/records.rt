@@ -371,6 +371,11 @@ impl Records {
         self.blocks.are_all_due()
     }
 
+    /// Whether edits seem to have made many records stale since blocks were made, without a look at them. Nothing rests on it.
+    pub fn are_many_due(&self) -> bool {
+        self.blocks.are_many_due()
+    }
+
     /// Takes out the places of records that may be put into blocks: those put in since that was done last, and those of which a
     /// block was dropped, by one of its records.
     pub fn take_due(&mut self, alloc: Global) -> Vec<u32>

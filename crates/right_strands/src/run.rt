@@ -86,6 +86,11 @@ impl<'a, J: Run> Scene<'a, J> {
         }
     }
 
+    /// Whether edits seem to have made many records stale, without a look at them. Nothing rests on it.
+    pub fn has_many_due(&self) -> bool {
+        self.records.are_many_due()
+    }
+
     /// Whether many records seem to be stale, by a look at some. Nothing rests on it.
     #[inline(never)]
     pub fn seems_stale(&self) -> bool {

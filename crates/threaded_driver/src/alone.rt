@@ -31,7 +31,7 @@ const TIMES: usize = 8;
 
 impl<J: Run + Ledger + Stocked + Send, D: Deques, V: View> Floor<'_, J, D, V> {
     /// The first worker comes. Where records may answer the run it goes on for a while before the others are started, unless somebody
-    /// watches who may hold it for them. What this takes of the stack is free again for what comes behind it.
+    /// watches who may hold it for them, or edits have made many records stale. What this takes of the stack is free again for what comes behind it.
     #[inline(never)]
     pub(crate) fn begin<R: Wait, G: Gate>(
         &self,
@@ -43,7 +43,7 @@ impl<J: Run + Ledger + Stocked + Send, D: Deques, V: View> Floor<'_, J, D, V> {
         ensures here { IsAt seat.new.here result.1 }
     {
         let (number, found) = self.come(rt, seat);
-        if !self.has_records || gate.watches_updates() {
+        if !self.has_records || gate.watches_updates() || self.scene.has_many_due() {
             return (number, found);
         }
         match found {
