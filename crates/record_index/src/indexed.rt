@@ -167,7 +167,7 @@ impl IndexedRecords {
     }
 
     /// Brings the records' numbers up to date after a row of the table of that number was changed, which `row_before` has noted. It takes
-    /// no memory behind `cover`, and is never refused.
+    /// no memory, and is never refused.
     pub fn row_changed(&mut self, tables: &Tables, table: usize, row: i64)
         requires beside { (self.old.records ≡ [])
             ⊎ (IsBeside tables.now.tables table row self.old.was × (length self.old.was.sums < self.old.room)) }

@@ -192,13 +192,14 @@ impl Covers {
         if self.late.len() < self.late.capacity() {
             self.late.push_reserved(place);
         } else {
-            self.hold(list, place);
+            self.hold(list, place, true);
         }
     }
 
-    /// Has the hulls of all places hold what the records there have read, as far as memory isn't refused.
+    /// Has the hulls of all places hold what the records there have read: they are widened as far as memory isn't refused, or, without
+    /// memory, those that don't hold it are dropped.
     #[inline(always)]
-    pub(crate) fn settle(&mut self, list: &[Record])
+    pub(crate) fn settle(&mut self, list: &[Record], widens: bool)
         requires kept { AreKept list.now self.old }
         ensures held { AreCovered list.now self.new }
         ensures kept { AreKept list.now self.new }
@@ -206,13 +207,13 @@ impl Covers {
     {
         // Behind an edit there are none, and further edits needn't do anything.
         if !self.late.is_empty() {
-            self.hold_late(list);
+            self.hold_late(list, widens);
         }
     }
 
     // The same, where there are some.
     #[inline(never)]
-    fn hold_late(&mut self, list: &[Record])
+    fn hold_late(&mut self, list: &[Record], widens: bool)
         requires kept { AreKept list.now self.old }
         ensures held { AreCovered list.now self.new }
         ensures kept { AreKept list.now self.new }
@@ -220,27 +221,27 @@ impl Covers {
     {
         let alloc = *self.late.allocator();
         let mut late = mem::replace(&mut self.late, Vec::new(alloc));
-        self.hold_all(list, &late);
+        self.hold_all(list, &late, widens);
         late.clear();
         if late.capacity() <= KEPT {
             self.late = late;
         }
     }
 
-    // Has the hulls of these places hold what the records there have read, as far as memory isn't refused.
-    fn hold_all(&mut self, list: &[Record], places: &[usize])
+    // Has the hulls of these places hold what the records there have read, or drops them.
+    fn hold_all(&mut self, list: &[Record], places: &[usize], widens: bool)
         requires kept { AreCoveredBut places.now list.now self.old }
         ensures held { AreCovered list.now self.new }
         ensures same { self.new.late ≡ self.old.late }
     {
         for place in places {
-            self.hold(list, *place);
+            self.hold(list, *place, widens);
         }
     }
 
-    // Has the hulls of that place hold what the record there has read, as far as memory isn't refused.
+    // Has the hulls of that place hold what the record there has read, or drops them.
     #[inline(never)]
-    fn hold(&mut self, list: &[Record], place: usize)
+    fn hold(&mut self, list: &[Record], place: usize, widens: bool)
         ensures held { (rest : List ℕ) → AreCoveredBut (place ∷ rest) list.now self.old
             → AreCoveredBut rest list.now self.new }
         ensures same { self.new.late ≡ self.old.late }
@@ -249,9 +250,9 @@ impl Covers {
             return;
         }
         let reads = list[place].reads();
-        put_in(&mut self.wide, WIDE, place, reads);
-        put_in(&mut self.middle, MIDDLE, place, reads);
-        put_in(&mut self.narrow, NARROW, place, reads);
+        put_in(&mut self.wide, WIDE, place, reads, widens);
+        put_in(&mut self.middle, MIDDLE, place, reads, widens);
+        put_in(&mut self.narrow, NARROW, place, reads, widens);
         self.skips.put_in(place, reads);
     }
 
@@ -262,7 +263,7 @@ impl Covers {
         requires kept { AreKept list.now self.old }
         ensures kept { AreKept list.now self.new }
     {
-        self.settle(list);
+        self.settle(list, true);
         self.add(alloc, list);
     }
 
@@ -336,15 +337,15 @@ fn is_touched(is_known: bool, record: Option<&Record>, change: &(usize, i64)) ->
     }
 }
 
-// Has the hull of that place hold what was read, if there is one. Where memory is refused that hull and those behind it are dropped.
-fn put_in(hulls: &mut Vec<Hull>, width: usize, place: usize, reads: &Readings)
+// Has the hull of that place hold what was read, if there is one. Where it can't, it and those behind it are dropped.
+fn put_in(hulls: &mut Vec<Hull>, width: usize, place: usize, reads: &Readings, widens: bool)
     requires some { 0 < width }
     ensures held { (list : List PlainRecord) (rest : List ℕ)
         → CoversBut (place ∷ rest) list (record { width = width; hulls = hulls.old.items })
         → ((r : PlainRecord) → slice_get list place ≡ Some r → r.reads ≡ reads.now)
         → CoversBut rest list (record { width = width; hulls = hulls.new.items }) }
 {
-    widen(hulls, place / width, reads);
+    widen(hulls, place / width, reads, widens);
 }
 
 // Whether there is a hull of that number, and the change doesn't lie in it.
@@ -357,9 +358,9 @@ fn is_hull_apart(hulls: &[Hull], number: usize, change: &(usize, i64)) -> bool
     }
 }
 
-// Has the hull of that number hold what was read too, if there is one. Where memory is refused it and those behind it are dropped, as
-// it may then hold a part of what was read alone.
-fn widen(hulls: &mut Vec<Hull>, number: usize, reads: &Readings)
+// Has the hull of that number hold what was read too, if there is one. Where it can't, it and those behind it are dropped, as it may then
+// hold a part of what was read alone.
+fn widen(hulls: &mut Vec<Hull>, number: usize, reads: &Readings, widens: bool)
     ensures fewer { length hulls.new.items ≤ length hulls.old.items }
     ensures held { (h : List Span) → slice_get hulls.new.items number ≡ Some h
         → every (is_covered_by h) reads.now ≡ true }
@@ -370,8 +371,21 @@ fn widen(hulls: &mut Vec<Hull>, number: usize, reads: &Readings)
     if number >= hulls.len() {
         return;
     }
-    if hulls[number].widen(reads).is_err() {
+    if !holds(&mut hulls[number], reads, widens) {
         hulls.truncate(number);
+    }
+}
+
+// Whether the hull holds what was read too: as it is, or widened, unless memory is refused.
+fn holds(hull: &mut Hull, reads: &Readings, widens: bool) -> bool
+    ensures held { result ≡ true → every (is_covered_by hull.new) reads.now ≡ true }
+    ensures kept { result ≡ true → (note : Note) → is_covered_by hull.old note ≡ true
+        → is_covered_by hull.new note ≡ true }
+{
+    if widens {
+        hull.widen(reads).is_ok()
+    } else {
+        hull.has(reads)
     }
 }
 

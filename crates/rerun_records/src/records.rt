@@ -505,15 +505,15 @@ impl Records {
 
     /// Tells the records that the row of the table of that number was changed, each given by its number: these readings the tables don't
     /// hold any more, and those they hold again. Before, the records were in step with the tables, which held the first of these readings
-    /// and not the second. It goes by the hulls that there are, passes over most of the records that haven't read
-    /// the row, and takes no memory where `cover` was called since records were put in.
+    /// and not the second. It takes no memory, goes by the hulls that there are, and passes over most of the records that haven't read
+    /// the row. Where `cover` wasn't called since records were put in, hulls that don't hold what these have read are dropped.
     pub fn tell(&mut self, change: &(usize, i64), lost: &[Note], won: &[Note])
         requires rest { every (λ n. not (is_apart (change.now ∷ []) n)) (lost.now ++ won.now) ≡ true }
         ensures told { (before : PlainTables) → IsInStep before self.old → AreBefore before lost.now won.now
             → self.new ≡ map (told_by lost.now won.now) self.old }
         ensures same { map as_made self.new ≡ map as_made self.old }
     {
-        self.covers.settle(&self.list);
+        self.covers.settle(&self.list, false);
         tell(
             &mut self.numbers,
             &mut self.blocks,
