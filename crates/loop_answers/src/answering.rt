@@ -168,7 +168,7 @@ fn answer_half<V: View>(
         most: turns.share.count,
         all: true,
         halves: calls,
-        is_left: leaves && turns.share.count <= few_left(calls),
+        is_left: leaves && turns.share.count <= few_left(halvings, calls),
     };
     let Some(found) = answers(machine, alloc, setting, code, turns, wanted) else {
         return Ok(false);

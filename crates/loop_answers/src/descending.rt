@@ -27,6 +27,12 @@ const FEW: u32 = 64;
 /// The same whether they are called or not.
 const SMALL: u32 = 32;
 
+/// The same of a loop that was halved so often: it has 512 such halves or more, enough for all workers, and to have another one take a part of
+/// one takes longer than what records don't answer of it.
+const PART: u32 = 256;
+
+const PARTED: u32 = 9;
+
 /// A half may be halved so many times, and so many of its iterations are answered; whether it is known that the one behind these
 /// isn't, whether spawned children are called, and whether a half of few iterations, which aren't all answered, is left as it is.
 #[derive(Clone, Copy)]
@@ -114,11 +120,15 @@ fn behind<'b, 'a>(found: &'b [Batch<'a>], count: usize) -> &'b [Batch<'a>]
 
 /// Whether a half of those iterations, which aren't all answered, is left as it is.
 fn is_left(descent: Descent, share: Share) -> bool {
-    descent.leaves && share.count <= few_left(descent.calls)
+    descent.leaves && share.count <= few_left(descent.halvings, descent.calls)
 }
 
-/// Halves of how many iterations are left as they are, where that is asked for, by whether spawned children are called.
-pub(crate) fn few_left(calls: bool) -> u32 {
+/// Halves of how many iterations are left as they are, where that is asked for, by how often they may be halved still and whether spawned
+/// children are called.
+pub(crate) fn few_left(halvings: u32, calls: bool) -> u32 {
+    if halvings.saturating_add(PARTED) <= HALVINGS {
+        return PART;
+    }
     if calls { FEW } else { SMALL }
 }
 

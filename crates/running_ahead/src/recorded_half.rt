@@ -32,6 +32,10 @@ use small_steps::machine::Machine;
 use std::alloc::{AllocError, Global};
 use view_pool::{Kit, KitSource, View};
 
+/// A half of a loop that was halved so often is done in one go where there are records, too: the loop has 512 such halves or more, enough for all
+/// workers, and records answer most of each behind most edits.
+const PARTED: u32 = 9;
+
 /// A half of a loop: that share of its iterations, which may be halved so many times more.
 #[derive(Clone, Copy)]
 pub(crate) struct Half {
@@ -72,13 +76,21 @@ pub(crate) fn record_half<V: View, S: Spawning, K: KitSource<Kit<V>>>(
     let Some(levels) = levels_of(machine, setting, code, part) else {
         return Ok(false);
     };
-    if half.share.count > SMALL && !spawning.is_called() {
+    if !is_small(setting, half) && !spawning.is_called() {
         return Ok(false);
     }
     let Some(copies) = make_parts(machine, alloc, setting.program.slots(code.callee), levels) else {
         return Ok(false);
     };
     record_part(machine, alloc, setting, code, Ready { part, copies }, kits)
+}
+
+/// Whether a half's iterations, which are few, are done in one go even where its first half could be pushed.
+fn is_small(setting: Setting<'_>, half: Half) -> bool {
+    if half.share.count <= SMALL {
+        return true;
+    }
+    !setting.records.is_empty() && half.halvings.saturating_add(PARTED) <= meaning::HALVINGS
 }
 
 /// How often that part's iterations are halved at most, where they are few, are halved and may be recorded in one go.
