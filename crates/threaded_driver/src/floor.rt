@@ -104,7 +104,7 @@ impl<J: Run + Ledger + Stocked + Send, D: Deques, V: View> Floor<'_, J, D, V> {
         ensures left { is_left result.1 ≡ false }
         ensures here { IsAt seat.new.here result.1 }
     {
-        let (number, first) = self.desk.lock(rt).come(seat.deque());
+        let (number, first) = self.at_desk(rt).come(seat.deque());
         self.drain(rt, seat);
         match first {
             Some(held) => (number, Found::Own(held)),
@@ -142,7 +142,7 @@ impl<J: Run + Ledger + Stocked + Send, D: Deques, V: View> Floor<'_, J, D, V> {
         ensures left { is_left result ≡ true → 0 < seat.new.left }
         ensures here { seat.new.here ≡ seat.old.here }
     {
-        let mut desk = self.desk.lock(rt);
+        let mut desk = self.at_desk(rt);
         let found = desk.find(self.alloc, &self.scene, number, seat);
         self.note(desk.has_failed());
         match &found {
@@ -411,7 +411,7 @@ impl<J: Run + Ledger + Stocked + Send, D: Deques, V: View> Floor<'_, J, D, V> {
             if let Some(task) = seat.pop() {
                 return Some(task);
             }
-            if self.desk.lock(rt).unbind_if_drained(seat) {
+            if self.at_desk(rt).unbind_if_drained(seat) {
                 return None;
             }
         }
@@ -469,7 +469,7 @@ impl<J: Run + Ledger + Stocked + Send, D: Deques, V: View> Floor<'_, J, D, V> {
         requires counted { share.amount ≡ kits }
         requires kits { kits ≡ kits_of piece.strand }
     {
-        let mut desk = self.desk.lock(rt);
+        let mut desk = self.at_desk(rt);
         desk.lay(self.alloc, piece, share, kits);
         self.note(desk.has_failed());
     }
@@ -479,7 +479,7 @@ impl<J: Run + Ledger + Stocked + Send, D: Deques, V: View> Floor<'_, J, D, V> {
         requires right { is_right failure ≡ true }
         requires near { is_far failure ≡ false }
     {
-        self.desk.lock(rt).fail(failure);
+        self.at_desk(rt).fail(failure);
         self.note(true);
     }
 

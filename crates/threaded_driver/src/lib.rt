@@ -8,6 +8,7 @@ mod floor;
 mod found;
 pub mod gate;
 mod life;
+mod locking;
 pub mod run;
 mod spawned;
 
