@@ -14,7 +14,7 @@ use positions::answer::RunAnswer;
 use positions::phase::Phase;
 use small_steps::machine::Machine;
 use std::alloc::{AllocError, Global};
-use strand_moves::ending::{close_upper, left_with, let_go};
+use strand_moves::ending::{Tally, close_upper, left_with, let_go};
 use view_pool::{Kit, KitSource, View};
 
 impl<V: View> Strand<V> {
@@ -52,6 +52,28 @@ impl<V: View> Strand<V> {
             → K.free kits.new ≡ suc (length self.lower) + K.free kits.old }
         ensures total { K.total kits.new ≡ K.total kits.old }
     {
+        let (answer, tally) = self.end_with_tally(alloc, kits);
+        (answer, tally.into_records())
+    }
+
+    /// The same with the strand's tally in place of its records, which stay in the lists in which they were made.
+    pub fn end_with_tally<K: KitSource<Kit<V>>>(
+        self,
+        alloc: Global,
+        kits: &mut K,
+    ) -> (RunAnswer, Tally)
+        requires fits { K.fits self.layer.kinds kits.old }
+        ensures answer { IsAnswer (ending_of self) (lowest_of self.layer self.lower).worths
+            self.tally result.0 }
+        ensures definition { (setting : Setting) → IsAnswerOf setting self result.0 }
+        ensures records { result.1.made ≡ self.tally.made }
+        ensures fitting { (k : List Kind) → K.fits k kits.old → K.fits k kits.new }
+        ensures gives_known { (k : List Kind) → K.gives k kits.new
+            → K.gives k kits.old ⊎ self.layer.kinds ≡ k }
+        ensures home { suc (length self.lower) + K.free kits.old ≤ K.total kits.old
+            → K.free kits.new ≡ suc (length self.lower) + K.free kits.old }
+        ensures total { K.total kits.new ≡ K.total kits.old }
+    {
         let Strand { machine } = self;
         end(machine, alloc, kits)
     }
@@ -64,17 +86,17 @@ impl<V: View> Strand<V> {
     }
 }
 
-/// The answer and the records made; every kit goes home.
+/// The answer, and the tally with the records made; every kit goes home.
 fn end<V: View, K: KitSource<Kit<V>>>(
     mut machine: Machine<V>,
     alloc: Global,
     kits: &mut K,
-) -> (RunAnswer, Vec<Record>)
+) -> (RunAnswer, Tally)
     requires kinds { All (λ l. l.kinds ≡ machine.layer.kinds) machine.lower }
     requires fits { K.fits machine.layer.kinds kits.old }
     ensures answer { IsAnswer (ending_of machine) (lowest_of machine.layer machine.lower).worths
         machine.tally result.0 }
-    ensures records { result.1.items ≡ machine.tally.made }
+    ensures records { result.1.made ≡ machine.tally.made }
     ensures fitting { (k : List Kind) → K.fits k kits.old → K.fits k kits.new }
     ensures gives_known { (k : List Kind) → K.gives k kits.new → K.gives k kits.old ⊎ machine.layer.kinds ≡ k }
     ensures home { suc (length machine.lower) + K.free kits.old ≤ K.total kits.old → K.free kits.new ≡ suc (length machine.lower) + K.free kits.old }

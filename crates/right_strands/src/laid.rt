@@ -12,13 +12,13 @@ ghost use Rattle.right_strands.specs.Laid.{IsPausedAs, laid_as, AnswersElision, 
 use crate::run::{Run, Scene};
 use crate::strand::RightStrand;
 use frames::strand::Strand;
-use instance_records::record::Record;
 use positions::answer::RunAnswer;
 use positions::phase::Paused;
 use positions::start::Start;
 use std::alloc::{AllocError, Global};
 use std::marker::Model;
 pub use strand_list::laid_state::LaidState;
+pub use strand_moves::ending::Tally;
 use view_pool::{Kit, KitSource, View};
 
 /// A strand that is right for the run J, and at the point as which it is laid down; one with a fault has one layer. It lies in the box
@@ -160,21 +160,21 @@ impl<J: Run, V: View> Piece<J, V> {
         }
     }
 
-    /// The answer of the piece that ends the run, which is the elision's, and its new records; every kit goes home where there is
-    /// room for them all.
+    /// The answer of the piece that ends the run, which is the elision's, and its tally with its new records; every kit goes home where
+    /// there is room for them all.
     pub fn end<K: KitSource<Kit<V>>>(
         self,
         scene: &Scene<'_, J>,
         alloc: Global,
         kits: &mut K,
-    ) -> (RunAnswer, Vec<Record>)
+    ) -> (RunAnswer, Tally)
         requires ends { ends_run self ≡ true }
         requires fits { K.fits J.setting.kinds kits.old }
         ensures elision { AnswersElision J.setting result.0 }
         ensures given { IsGiven result.0 }
-        ensures recorded { HasRecorded J.setting result.0 result.1.items }
-        ensures values { HaveValues J.setting.kinds result.1.items }
-        ensures records { result.1.items ≡ self.strand.tally.made }
+        ensures recorded { HasRecorded J.setting result.0 result.1.made }
+        ensures values { HaveValues J.setting.kinds result.1.made }
+        ensures records { result.1.made ≡ self.strand.tally.made }
         ensures fitting { (k : List Kind) → K.fits k kits.old → K.fits k kits.new }
         ensures gives_known { (k : List Kind) → K.gives k kits.new
             → K.gives k kits.old ⊎ J.setting.kinds ≡ k }
@@ -186,7 +186,7 @@ impl<J: Run, V: View> Piece<J, V> {
         scene.upheld();
         let strand = self.into_strand();
         strand.layered();
-        strand.end(alloc, kits)
+        strand.end_with_tally(alloc, kits)
     }
 
     /// The strand by itself.

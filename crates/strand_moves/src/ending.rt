@@ -4,8 +4,8 @@ ghost use Rattle.monoid_laws.specs.declared.Kind.{Kind};
 ghost use Rattle.positions.specs.Moves.{lowest_alone};
 ghost use Rattle.strand_moves.specs.Ends.{left_with};
 
-use instance_records::record::Record;
 use layers::closing::{close_all, send_home};
+pub use layers::tally::Tally;
 use small_steps::machine::Machine;
 use strand_parts::ends::left_by;
 use view_pool::{Kit, KitSource, View};
@@ -24,10 +24,10 @@ pub fn close_upper<V: View, K: KitSource<Kit<V>>>(machine: &mut Machine<V>, kits
     close_all(&mut machine.layer, &mut machine.lower, kits);
 }
 
-/// Sends the one kit home, and gives the records made.
-pub fn let_go<V: View, K: KitSource<Kit<V>>>(machine: Machine<V>, kits: &mut K) -> Vec<Record>
+/// Sends the one kit home, and gives the tally: the records stay in the lists in which they were made.
+pub fn let_go<V: View, K: KitSource<Kit<V>>>(machine: Machine<V>, kits: &mut K) -> Tally
     requires fits { K.fits machine.layer.kinds kits.old }
-    ensures records { result.items ≡ machine.tally.made }
+    ensures records { result.made ≡ machine.tally.made }
     ensures fitting { (k : List Kind) → K.fits k kits.old → K.fits k kits.new }
     ensures gives_known { (k : List Kind) → K.gives k kits.new → K.gives k kits.old ⊎ machine.layer.kinds ≡ k }
     ensures home { K.free kits.old < K.total kits.old → K.free kits.new ≡ suc (K.free kits.old) }
@@ -49,7 +49,7 @@ pub fn let_go<V: View, K: KitSource<Kit<V>>>(machine: Machine<V>, kits: &mut K) 
         lists: _,
     } = machine;
     send_home(kits, layer.close());
-    tally.into_records()
+    tally
 }
 
 /// The value with which `main` has left, where it has.

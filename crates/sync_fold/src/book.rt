@@ -3,10 +3,9 @@ use crate::folds::{first_fold, fold_kept, places_at};
 use crate::kept::{keep, put_behind, take_behind};
 use crate::laid::{Laid, ends_alone, into_alone, may_touch_at};
 use crate::refusal::Refusal;
-use instance_records::record::Record;
 use numbered_runs::step::{BookStep, Place, StrandLine};
 use positions::answer::RunAnswer;
-use right_strands::laid::Piece;
+use right_strands::laid::{Piece, Tally};
 use right_strands::pair::Pair;
 use right_strands::run::{Run, Scene};
 use right_strands::spare::Spares;
@@ -512,20 +511,20 @@ impl<J: Run, V: View> Book<J, V> {
         ends_alone(&self.laid)
     }
 
-    /// The answer of the strand that is left, which is the elision's, its new records, and the history; every kit of it goes home
-    /// where there is room for them all.
+    /// The answer of the strand that is left, which is the elision's, its tally with its new records, and the history; every kit of it
+    /// goes home where there is room for them all.
     pub fn end<K: KitSource<Kit<V>>>(
         self,
         scene: &Scene<'_, J>,
         alloc: Global,
         kits: &mut K,
-    ) -> (RunAnswer, Vec<Record>, Vec<BookStep>)
+    ) -> (RunAnswer, Tally, Vec<BookStep>)
         requires ended { is_ended self ≡ true }
         requires fits { K.fits J.setting.kinds kits.old }
         ensures elision { AnswersElision J.setting result.0 }
         ensures given { IsGiven result.0 }
-        ensures recorded { HasRecorded J.setting result.0 result.1.items }
-        ensures values { HaveValues J.setting.kinds result.1.items }
+        ensures recorded { HasRecorded J.setting result.0 result.1.made }
+        ensures values { HaveValues J.setting.kinds result.1.made }
         ensures history { steps_of result.2.items ≡ self.chronicle.history }
         ensures legal { LeavesRootAlone self.chronicle.history }
         ensures fitting { (k : List Kind) → K.fits k kits.old → K.fits k kits.new }
@@ -543,7 +542,7 @@ impl<J: Run, V: View> Book<J, V> {
             laid,
             ..
         } = self;
-        let (answer, records) = into_alone(laid).end(scene, alloc, kits);
-        (answer, records, chronicle.into_history())
+        let (answer, tally) = into_alone(laid).end(scene, alloc, kits);
+        (answer, tally, chronicle.into_history())
     }
 }

@@ -592,7 +592,7 @@ impl<'a, J: Run + Ledger + Stocked + Send, D: Deques, V: View> Floor<'a, J, D, V
         };
         let pool = pool.into_pool();
         match ran {
-            Ok(ended) => Ok((ended.answer, pool, ended.made, ended.steps)),
+            Ok(ended) => Ok((ended.answer, pool, ended.tally.into_records(), ended.steps)),
             Err(mismatch) => Err((mismatch, pool)),
         }
     }

@@ -143,10 +143,10 @@ fn give_back<V: View>(
     session.upheld();
     let Ended {
         answer,
-        made,
+        tally,
         steps,
     } = ended;
-    match session.settle(pool, made) {
+    match session.settle(pool, tally.into_records()) {
         Ok(()) => (answer, steps),
         Err(AllocError) => (RunAnswer::NoMemory, Vec::new(alloc)),
     }

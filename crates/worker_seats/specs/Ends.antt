@@ -19,7 +19,7 @@ IsAlone _ made = made ≡ []
 pub record IsEnd (setting : Setting) (e : Ended) : Type 0 where
   pub elision : AnswersElision setting e.answer
   pub given : IsGiven e.answer
-  pub recorded : HasRecorded setting e.answer e.made.items
-  pub alone : IsAlone e.answer e.made.items
-  pub values : HaveValues setting.kinds e.made.items
+  pub recorded : HasRecorded setting e.answer e.tally.made
+  pub alone : IsAlone e.answer e.tally.made
+  pub values : HaveValues setting.kinds e.tally.made
   pub history_of : HasHistory e.answer (history e.steps.items)

@@ -6,17 +6,18 @@ ghost use Rattle.positions.specs.Setting.{Setting};
 ghost use Rattle.worker_seats.specs.Ends.{IsAlone, IsEnd};
 ghost use Rattle.positions.specs.declared.answer.RunAnswer.TheVariants as answer;
 
-use instance_records::record::Record;
 use numbered_runs::step::BookStep;
 use positions::answer::RunAnswer;
+use right_strands::laid::Tally;
 use std::alloc::Global;
 use worker_rules::its_end::is_finished;
 
-/// How a run has ended: its answer, its new records, and the steps of its list of strands.
+/// How a run has ended: its answer, its tally with its new records in the lists in which workers made them, and the steps of its list of
+/// strands.
 #[derive(Drop)]
 pub struct Ended {
     pub answer: RunAnswer,
-    pub made: Vec<Record>,
+    pub tally: Tally,
     pub steps: Vec<BookStep>,
 }
 
@@ -28,20 +29,20 @@ impl Ended {
     {
         Ended {
             answer: RunAnswer::NoMemory,
-            made: Vec::new(alloc),
+            tally: Tally::new(alloc),
             steps: Vec::new(alloc),
         }
     }
 }
 
-/// The records that are kept of a run with that answer: those that were made, where it has finished.
-pub fn kept_of(alloc: Global, answer: &RunAnswer, made: Vec<Record>) -> Vec<Record>
-    ensures alone { IsAlone answer.now result.items }
-    ensures recorded { (setting : Setting) → HasRecorded setting answer.now made.items → HasRecorded setting answer.now result.items }
-    ensures values { (setting : Setting) → HaveValues setting.kinds made.items → HaveValues setting.kinds result.items }
+/// The tally that is kept of a run with that answer: with the records that were made, where it has finished, and else with none.
+pub fn kept_of(alloc: Global, answer: &RunAnswer, tally: Tally) -> Tally
+    ensures alone { IsAlone answer.now result.made }
+    ensures recorded { (setting : Setting) → HasRecorded setting answer.now tally.made → HasRecorded setting answer.now result.made }
+    ensures values { (setting : Setting) → HaveValues setting.kinds tally.made → HaveValues setting.kinds result.made }
 {
     if is_finished(answer) {
-        return made;
+        return tally;
     }
-    Vec::new(alloc)
+    Tally::new(alloc)
 }

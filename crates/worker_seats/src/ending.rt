@@ -48,11 +48,11 @@ fn end_of<J: Run + Stocked, V: View>(
     ensures end { IsEnd J.setting result }
     ensures home { kits_laid book.laid + pool.old ≤ J.total → pool.new ≡ kits_laid book.laid + pool.old }
 {
-    let (answer, made, steps) = book.end(scene, alloc, pool);
-    let made = kept_of(alloc, &answer, made);
+    let (answer, tally, steps) = book.end(scene, alloc, pool);
+    let tally = kept_of(alloc, &answer, tally);
     Ended {
         answer,
-        made,
+        tally,
         steps,
     }
 }

@@ -7,18 +7,18 @@ pub settle-requires-clause-new : goal.settle-requires-clause-new
 settle-requires-clause-new g c κs within =
     let s = c.args.session.now in
     let e = c.args.ended in
-    let recorded = recorded_by s e.answer e.made.items c.requires.end.recorded c.requires.end.alone in
-    news_of s.checked s.tables s.records e.answer e.made.items recorded c.upheld.ensures.sound
+    let recorded = recorded_by s e.answer e.tally.made c.requires.end.recorded c.requires.end.alone in
+    news_of s.checked s.tables s.records e.answer e.tally.made recorded c.upheld.ensures.sound
 
 pub returns-in-Ok-clause-quiet : goal.returns-in-Ok-clause-quiet
 returns-in-Ok-clause-quiet g c =
     let s = c.args.session.now in
     let e = c.args.ended in
-    let recorded = recorded_by s e.answer e.made.items c.requires.end.recorded c.requires.end.alone in
-    quiet_whatever_kits s c.settle.new.self c.args.pool e.answer e.made.items c.upheld.ensures.sound recorded c.in-Ok.ensures.settled c.in-Ok.ensures.records
+    let recorded = recorded_by s e.answer e.tally.made c.requires.end.recorded c.requires.end.alone in
+    quiet_whatever_kits s c.settle.new.self c.args.pool e.answer e.tally.made c.upheld.ensures.sound recorded c.in-Ok.ensures.settled c.in-Ok.ensures.records
 
 pub returns-in-Ok-clause-recorded : goal.returns-in-Ok-clause-recorded
 returns-in-Ok-clause-recorded g c =
     let s = c.args.session.now in
     let e = c.args.ended in
-    leaves_records s e.answer e.made.items c.settle.new.self.records (recorded_by s e.answer e.made.items c.requires.end.recorded c.requires.end.alone) c.in-Ok.ensures.records
+    leaves_records s e.answer e.tally.made c.settle.new.self.records (recorded_by s e.answer e.tally.made c.requires.end.recorded c.requires.end.alone) c.in-Ok.ensures.records

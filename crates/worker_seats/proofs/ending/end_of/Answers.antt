@@ -7,8 +7,8 @@ returns-clause-end g c =
     record {
       elision = c.end-answer.ensures.elision;
       given = c.end-answer.ensures.given;
-      recorded = c.kept_of-made.ensures.recorded setting c.end-answer.ensures.recorded;
-      alone = c.kept_of-made.ensures.alone;
-      values = c.kept_of-made.ensures.values setting c.end-answer.ensures.values;
+      recorded = c.kept_of-tally.ensures.recorded setting c.end-answer.ensures.recorded;
+      alone = c.kept_of-tally.ensures.alone;
+      values = c.kept_of-tally.ensures.values setting c.end-answer.ensures.values;
       history_of = has_history c.end-answer.result.0 c.end-answer.result.2.items _ c.end-answer.ensures.history c.end-answer.ensures.legal;
     }

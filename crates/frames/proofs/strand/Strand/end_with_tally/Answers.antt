@@ -2,7 +2,7 @@ use Rattle.std.proofs.Common.{subst}
 use Rattle.positions.specs.Strands.{PlainStrand}
 use Rattle.frames.specs.Answers.{IsAnswerOf}
 use Rattle.frames.proofs.Endings.{answer_is}
-use Rattle.frames.proofs.strand.Strand.end.Goals as goal
+use Rattle.frames.proofs.strand.Strand.end_with_tally.Goals as goal
 
 pub returns-clause-definition : goal.returns-clause-definition
 returns-clause-definition g c setting =
