@@ -4,3 +4,5 @@ pub mod Ones
 pub mod Paths
 pub mod Placed
 pub mod Updates
+pub mod LeavesOpened
+pub mod OwnCalls

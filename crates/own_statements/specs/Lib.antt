@@ -1,3 +1,5 @@
 pub mod Fills
 pub mod Paths
 pub mod Runs
+pub mod Leaves
+pub mod Recursion

@@ -45,7 +45,8 @@ use Rattle.answered_loops.proofs.Found.{found_arguments}
 use Rattle.answered_loops.proofs.Sums.{absorbing_reads, absorbing_sum}
 use Rattle.answered_loops.proofs.Turns.{turn_answered, with_answer}
 use Rattle.running_ahead.specs.AnsweredChains.{AnswerFrom, AreTaken, ArePassed, nothing, recorded, answered}
-use Rattle.running_ahead.specs.Leaves.{PlainLeaf, IsLeaf, AreLeaves, no_leaf, one_behind, Gathered, gathered, IsRecorded, AreRecorded, more, arguments_then, gathered_by}
+use Rattle.own_statements.specs.Leaves.{PlainLeaf, IsLeaf, AreLeaves, no_leaf, one_behind}
+use Rattle.running_ahead.specs.Leaves.{Gathered, gathered, IsRecorded, AreRecorded, more, arguments_then, gathered_by}
 use Rattle.running_ahead.specs.Stepped.{IsStepped}
 use Rattle.running_ahead.proofs.LeafChains.{leaf_of, one_more}
 use Rattle.running_ahead.proofs.Stepping.{steps_way}

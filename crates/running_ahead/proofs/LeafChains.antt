@@ -1,5 +1,5 @@
 -- Iterations whose statements are done in layers of their own are recorded, one behind another.
-use Rattle.std.proofs.Common.{◌≡◌, ◌∙◌, ℕ, zero, suc, ◌+◌, ◌-◌, ◌==◌, ℤ, pos, ◌+ℤ◌, false, true, List, [], ◌∷◌, None, map, refl, sym, ap, subst, add-one}
+use Rattle.std.proofs.Common.{◌≡◌, ◌∙◌, ℕ, zero, suc, ◌+◌, ◌-◌, ◌==◌, ℤ, pos, ◌+ℤ◌, false, true, List, [], ◌∷◌, None, map, sym, ap, subst, add-one}
 use Rattle.std.proofs.Math.IntN.{+ℤ_assoc}
 use Rattle.linked_program.specs.CodeView.{expression, memo_of, slots_of}
 use Rattle.evaluation.specs.declared.slot.Slot.{Slot}
@@ -15,7 +15,8 @@ use Rattle.positions.specs.Tallies.{PlainTally}
 use Rattle.positions.specs.Advance.{rest_of}
 use Rattle.own_statements.specs.Fills.{IsCounted}
 use Rattle.running_ahead.specs.Stepped.{IsStepped}
-use Rattle.running_ahead.specs.Leaves.{PlainLeaf, IsLeaf, AreLeaves, no_leaf, one_behind, Gathered, gathered, gathered_by, IsRecorded, AreRecorded, none, more, arguments_then}
+use Rattle.own_statements.specs.Leaves.{PlainLeaf, IsLeaf, AreLeaves, no_leaf, one_behind}
+use Rattle.running_ahead.specs.Leaves.{Gathered, gathered, gathered_by, IsRecorded, AreRecorded, none, more, arguments_then}
 use Rattle.running_ahead.proofs.LeafSteps.{leaf_steps}
 
 module _ (setting : Setting) (l : Loop) (j : PlainLoop) where
@@ -59,11 +60,6 @@ module _ (setting : Setting) (l : Loop) (j : PlainLoop) where
         let here : IsLeaf setting (leaf_of left (h.first + n)) k o w u =
         subst (λ (i : ℤ). IsLeaf setting (record { callee = j.callee; size = slots_of setting.codes j.callee; left = left - 1; number = i }) k o w u) number leaf in
         one_longer h xs (gathered_by v t xs) n k w o u (leaves_recorded h xs n v k t o before) here
-
--- no layer is open that wasn't
-pub leaves_opened : (setting : Setting) (f : PlainLeaf) (n : ℕ) (l m : PlainLayer) (t u : PlainTally) → AreLeaves setting f l t n m u → u.opened ≡ t.opened
-leaves_opened setting f zero l m t u no_leaf = refl
-leaves_opened setting f (suc n) l m t u (one_behind i v o w y before leaf) = ap (λ (o : PlainTally). o.opened) leaf.tally ∙ leaves_opened setting f n l v t o before
 
 -- as they are of an iteration's number in its loop
 pub leaves_at : (setting : Setting) (l : Loop) (j : PlainLoop) (left i : ℕ) (size levels : ℕ) (number : ℤ) (n : ℕ) (v w : PlainLayer) (t u : PlainTally)

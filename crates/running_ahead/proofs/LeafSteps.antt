@@ -26,7 +26,8 @@ use Rattle.small_steps.proofs.Refusals.{path_back}
 use Rattle.small_steps.proofs.Turns.{number_taken}
 use Rattle.running_ahead.specs.Stepped.{IsStepped, here, on}
 use Rattle.running_ahead.proofs.Paths.{turned_next}
-use Rattle.running_ahead.specs.Leaves.{PlainLeaf, opened_by, IsLeaf, IsAmid}
+use Rattle.own_statements.specs.Leaves.{PlainLeaf, opened_by, IsLeaf}
+use Rattle.running_ahead.specs.Leaves.{IsAmid}
 use Rattle.running_ahead.proofs.Stepping.{steps_join, steps_of}
 
 -- a loop's instance and layer, what is counted and recorded, and the arguments of the last iteration

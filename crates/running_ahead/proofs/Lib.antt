@@ -16,4 +16,4 @@ pub mod HalvesRecorded
 pub mod PartsRecorded
 pub mod HalfSettled
 pub mod Kept
-pub mod OwnCalls
+pub mod OwnAhead

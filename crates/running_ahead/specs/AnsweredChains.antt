@@ -8,7 +8,7 @@ use Rattle.positions.specs.Strands.{PlainStrand}
 use Rattle.positions.specs.Tallies.{PlainTally}
 use Rattle.positions.specs.Advance.{record_for}
 use Rattle.answered_loops.specs.Answered.{absorbed, answered_more}
-use Rattle.running_ahead.specs.Leaves.{PlainLeaf, IsLeaf}
+use Rattle.own_statements.specs.Leaves.{PlainLeaf, IsLeaf}
 
 -- these records answer instances of a procedure at that depth, whose only arguments are the numbers from that one on
 abbrev pub AnswerFrom : Setting → ℕ → ℕ → ℤ → List PlainRecord → Type 0

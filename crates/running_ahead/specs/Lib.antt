@@ -4,4 +4,3 @@ pub mod Stepped
 pub mod Leaves
 pub mod RecordedHalves
 pub mod AnsweredChains
-pub mod Recursion

@@ -14,15 +14,16 @@ ghost use Rattle.answered_loops.specs.Answered.{answered_more};
 ghost use Rattle.own_statements.specs.Fills.{IsCounted};
 ghost use Rattle.own_statements.specs.Runs.{IsBody};
 ghost use Rattle.running_ahead.specs.AnsweredChains.{ArePassed, AreTaken, IsRefusedTurn};
-ghost use Rattle.running_ahead.specs.Leaves.{AreRecorded, IsRefusedLeaf, arguments_then, gathered_of, plain_leaf};
+ghost use Rattle.own_statements.specs.Leaves.{plain_leaf};
+ghost use Rattle.running_ahead.specs.Leaves.{AreRecorded, IsRefusedLeaf, arguments_then, gathered_of};
 
 use crate::answered_row::{Passed, take_behind};
-use crate::leaf::Leaf;
 use crate::leaf_chain::{Stretch, record_chain};
 use activations::code::{LoopCode, instructions};
 use activations::setting::Setting;
 use activations::shares::{behind, number_of};
 use layers::layer::DEEPEST;
+use own_statements::leaf::Leaf;
 use rerun_records::batch::Batch;
 use rerun_records::series::Series;
 use small_steps::machine::Machine;

@@ -13,12 +13,12 @@ ghost use Rattle.positions.specs.Layers.{PlainLayer, absorbing};
 ghost use Rattle.positions.specs.Tallies.{PlainTally, answering};
 ghost use Rattle.activations.specs.Given.{lent};
 ghost use Rattle.running_ahead.specs.AnsweredChains.{AreTaken};
-ghost use Rattle.running_ahead.specs.Leaves.{plain_leaf};
+ghost use Rattle.own_statements.specs.Leaves.{plain_leaf};
 
-use crate::leaf::Leaf;
 use activations::setting::Setting;
 use instance_records::record::Record;
 use layers::layer::DEEPEST;
+use own_statements::leaf::Leaf;
 use rerun_records::blocks::Width;
 use small_steps::machine::Machine;
 use std::alloc::{AllocError, Global};

@@ -3,8 +3,9 @@ use Rattle.std.proofs.lemmas.List.{nil_from_length}
 use Rattle.positions.specs.Code.{PlainLoop}
 use Rattle.positions.specs.Strands.{PlainStrand}
 use Rattle.activations.specs.Given.{lent, loop_of}
-use Rattle.running_ahead.specs.Leaves.{AreLeaves}
-use Rattle.running_ahead.proofs.LeafChains.{leaf_of, leaves_at, leaves_opened, leaves_recorded}
+use Rattle.own_statements.specs.Leaves.{AreLeaves}
+use Rattle.own_statements.proofs.LeavesOpened.{leaves_opened}
+use Rattle.running_ahead.proofs.LeafChains.{leaf_of, leaves_at, leaves_recorded}
 use Rattle.running_ahead.proofs.LeafSteps.{no_record}
 use Rattle.running_ahead.proofs.answered_chain.chain_through.Goals as goal
 

@@ -4,7 +4,7 @@ use Rattle.rerun_records.specs.declared.batch.Batch.{Batch}
 use Rattle.rerun_records.specs.Sums.{IsBatchFor}
 use Rattle.positions.specs.Strands.{PlainStrand}
 use Rattle.running_ahead.specs.AnsweredChains.{answered}
-use Rattle.running_ahead.specs.Leaves.{plain_leaf}
+use Rattle.own_statements.specs.Leaves.{plain_leaf}
 use Rattle.running_ahead.proofs.answered_chain.go_on.Goals as goal
 
 pub take_on-requires-clause-batch : goal.take_on-requires-clause-batch

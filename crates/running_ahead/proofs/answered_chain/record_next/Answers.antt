@@ -4,7 +4,7 @@ use Rattle.meaning.specs.Elision.{depth_limit}
 use Rattle.positions.specs.Advance.{record_for}
 use Rattle.positions.specs.Strands.{PlainStrand}
 use Rattle.activations.specs.Given.{lent}
-use Rattle.running_ahead.specs.Leaves.{plain_leaf}
+use Rattle.own_statements.specs.Leaves.{plain_leaf}
 use Rattle.running_ahead.proofs.AnsweredChains.{leaves_passed}
 use Rattle.running_ahead.proofs.answered_chain.record_next.Goals as goal
 

@@ -3,7 +3,7 @@ use Rattle.positions.specs.Strands.{PlainStrand}
 use Rattle.positions.specs.Tallies.{PlainTally}
 use Rattle.activations.specs.Given.{lent}
 use Rattle.running_ahead.specs.AnsweredChains.{AreTaken}
-use Rattle.running_ahead.specs.Leaves.{plain_leaf}
+use Rattle.own_statements.specs.Leaves.{plain_leaf}
 use Rattle.running_ahead.proofs.AnsweredChains.{batch_taken}
 use Rattle.running_ahead.proofs.answered_chain.take_on.Goals as goal
 

@@ -4,7 +4,7 @@ use Rattle.positions.specs.Advance.{record_for}
 use Rattle.positions.specs.Layers.{absorbing}
 use Rattle.positions.specs.Strands.{PlainStrand}
 use Rattle.activations.specs.Given.{lent}
-use Rattle.running_ahead.specs.Leaves.{plain_leaf}
+use Rattle.own_statements.specs.Leaves.{plain_leaf}
 use Rattle.running_ahead.proofs.AnsweredChains.{taken_more, answer_values}
 use Rattle.running_ahead.proofs.answered_row.take_row.Goals as goal
 

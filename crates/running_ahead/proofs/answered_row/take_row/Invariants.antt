@@ -3,7 +3,7 @@ use Rattle.positions.specs.Layers.{PlainLayer}
 use Rattle.positions.specs.Tallies.{PlainTally}
 use Rattle.activations.specs.Given.{lent}
 use Rattle.running_ahead.specs.AnsweredChains.{AreTaken}
-use Rattle.running_ahead.specs.Leaves.{plain_leaf}
+use Rattle.own_statements.specs.Leaves.{plain_leaf}
 use Rattle.running_ahead.proofs.answered_row.take_row.Given as goal
 
 abbrev pub invariant-loop : goal.invariant-loop

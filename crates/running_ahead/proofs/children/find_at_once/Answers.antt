@@ -13,9 +13,9 @@ use Rattle.positions.specs.Advance.{evaluated}
 use Rattle.activations.specs.Given.{lent}
 use Rattle.small_steps.specs.Steps.{nested_plain}
 use Rattle.running_ahead.specs.Ahead.{GoesAhead}
-use Rattle.running_ahead.specs.Recursion.{HasRoomAbove, IsCalled}
+use Rattle.own_statements.specs.Recursion.{HasRoomAbove, IsCalled}
 use Rattle.running_ahead.proofs.Paths.{same_parts}
-use Rattle.running_ahead.proofs.OwnCalls.{found_goes}
+use Rattle.running_ahead.proofs.OwnAhead.{found_goes}
 use Rattle.running_ahead.proofs.children.find_at_once.Goals as goal
 
 pub returns-in-Some-called-clause-came : goal.returns-in-Some-called-clause-came

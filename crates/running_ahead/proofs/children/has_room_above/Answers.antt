@@ -1,8 +1,8 @@
 use Rattle.std.proofs.Common.{rules, ◌≡◌, ◌∙◌, ◌+◌, ◌<◌, ℕ, true, false, List, length, reverse, refl, sym, ap, subst}
 use Rattle.positions.specs.Strands.{PlainStrand, entry_by}
 use Rattle.positions.specs.Tallies.{is_own}
-use Rattle.running_ahead.specs.Recursion.{HasRoomAbove}
-use Rattle.running_ahead.proofs.OwnCalls.{room_by}
+use Rattle.own_statements.specs.Recursion.{HasRoomAbove}
+use Rattle.running_ahead.proofs.OwnAhead.{room_by}
 use Rattle.running_ahead.proofs.children.has_room_above.Goals as goal
 
 pub returns : goal.returns

@@ -4,7 +4,7 @@ use Rattle.record_theory.specs.Named.{HaveValues}
 use Rattle.positions.specs.Layers.{PlainLayer}
 use Rattle.positions.specs.Strands.{PlainStrand}
 use Rattle.activations.specs.Given.{lent}
-use Rattle.running_ahead.specs.Leaves.{AreLeaves, no_leaf, plain_leaf}
+use Rattle.own_statements.specs.Leaves.{AreLeaves, no_leaf, plain_leaf}
 use Rattle.running_ahead.proofs.leaf_chain.record_chain.Goals as goal
 
 pub returns-then-is_err-clause-leaves : goal.returns-then-is_err-clause-leaves

@@ -2,8 +2,8 @@ use Rattle.std.proofs.Common.{◌≡◌, true, length}
 use Rattle.record_theory.specs.Named.{HaveValues}
 use Rattle.positions.specs.Layers.{blank}
 use Rattle.activations.specs.Given.{lent}
-use Rattle.running_ahead.specs.Leaves.{AreLeaves, plain_leaf}
-use Rattle.running_ahead.proofs.leaf_chain.record_each.Given as goal
+use Rattle.own_statements.specs.Leaves.{AreLeaves, plain_leaf}
+use Rattle.own_statements.proofs.leaves.record_each.Given as goal
 
 abbrev pub invariant-loop-done : goal.invariant-loop-done
 invariant-loop-done g l = record {

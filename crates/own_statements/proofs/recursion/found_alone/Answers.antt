@@ -2,8 +2,8 @@ use Rattle.std.proofs.Common.{rules, ◌≡◌, ◌∙◌, ℕ, ℤ, pos, Some, 
 use Rattle.std.specs.Ordering.{int_eq}
 use Rattle.evaluation.specs.Values.{pure}
 use Rattle.positions.specs.Setting.{setting_with}
-use Rattle.running_ahead.proofs.OwnCalls.{found_bind, found_sync, found_return, found_if}
-use Rattle.running_ahead.proofs.recursion.found_alone.Goals as goal
+use Rattle.own_statements.proofs.OwnCalls.{found_bind, found_sync, found_return, found_if}
+use Rattle.own_statements.proofs.recursion.found_alone.Goals as goal
 
 pub returns-in-Some-clause-found : goal.returns-in-Some-clause-found
 returns-in-Some-clause-found c ts rs =

@@ -7,8 +7,8 @@ use Rattle.positions.specs.Layers.{PlainLayer, blank, entering}
 use Rattle.positions.specs.Tallies.{opening, closing}
 use Rattle.activations.specs.Given.{lent}
 use Rattle.own_statements.specs.Paths.{ComesTo}
-use Rattle.running_ahead.specs.Leaves.{IsLeaf, opened_by, plain_leaf}
-use Rattle.running_ahead.proofs.leaf.record_in.Goals as goal
+use Rattle.own_statements.specs.Leaves.{IsLeaf, opened_by, plain_leaf}
+use Rattle.own_statements.proofs.leaf.record_in.Goals as goal
 
 pub returns-in-Ok-clause-leaf : goal.returns-in-Ok-clause-leaf
 returns-in-Ok-clause-leaf g c done =

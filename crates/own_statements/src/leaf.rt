@@ -12,8 +12,9 @@ ghost use Rattle.positions.specs.Advance.{record_for};
 ghost use Rattle.activations.specs.Given.{lent};
 ghost use Rattle.own_statements.specs.Paths.{ComesTo};
 ghost use Rattle.own_statements.specs.Runs.{IsBody};
-ghost use Rattle.running_ahead.specs.Leaves.{IsLeaf, opened_by, plain_leaf};
+ghost use Rattle.own_statements.specs.Leaves.{IsLeaf, opened_by, plain_leaf};
 
+use crate::runs::call;
 use activations::activation::Activation;
 use activations::setting::Setting;
 use layers::layer::Layer;
@@ -22,19 +23,18 @@ use layers::spares::SpareLists;
 use layers::tally::Tally;
 use linked_program::checked::Checked;
 use linked_program::code::Instruction;
-use own_statements::runs::call;
 use std::alloc::{AllocError, Global};
 use view_pool::{Kit, View};
 
 /// An iteration of a loop whose only argument is its number: as an instance of that procedure, which has so many slots and so many levels
 /// below it, and does these statements.
 #[derive(Clone, Copy)]
-pub(crate) struct Leaf<'a> {
-    pub(crate) callee: usize,
-    pub(crate) size: usize,
-    pub(crate) left: u32,
-    pub(crate) number: i64,
-    pub(crate) body: &'a [Instruction],
+pub struct Leaf<'a> {
+    pub callee: usize,
+    pub size: usize,
+    pub left: u32,
+    pub number: i64,
+    pub body: &'a [Instruction],
 }
 
 /// The statements of an iteration over its own layer; the value that it gives back, if it does them all by itself.
@@ -141,7 +141,7 @@ pub(crate) fn record_in<V: View>(
 
 /// A layer of that kit in spare lists, in which nothing was noted yet. Where memory is refused, the kit is handed back.
 #[inline(always)]
-pub(crate) fn own_layer<V: View>(
+pub fn own_layer<V: View>(
     lists: &mut SpareLists,
     alloc: Global,
     program: &Checked,

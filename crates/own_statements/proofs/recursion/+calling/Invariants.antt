@@ -5,8 +5,8 @@ use Rattle.positions.specs.declared.work.Work.TheVariants.{Block}
 use Rattle.positions.specs.Activations.{first_of, made}
 use Rattle.positions.specs.Layers.{PlainLayer}
 use Rattle.positions.specs.Setting.{setting_with}
-use Rattle.running_ahead.specs.Recursion.{Comes, deep}
-use Rattle.running_ahead.proofs.recursion.+calling.Given as goal
+use Rattle.own_statements.specs.Recursion.{Comes, deep}
+use Rattle.own_statements.proofs.recursion.+calling.Given as goal
 
 abbrev pub invariant-value_of-loop-index : goal.invariant-value_of-loop-index
 invariant-value_of-loop-index l = record {

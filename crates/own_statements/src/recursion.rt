@@ -9,8 +9,8 @@ ghost use Rattle.record_theory.specs.Record.{PlainRecord};
 ghost use Rattle.positions.specs.Activations.{with_slot};
 ghost use Rattle.positions.specs.Layers.{PlainLayer};
 ghost use Rattle.positions.specs.Setting.{setting_with};
+ghost use Rattle.own_statements.specs.Recursion.{FoundBy, Gives, InsideBy, IsBegun, IsCalled, ReturnsBy, begun, deep};
 ghost use Rattle.own_statements.specs.Runs.{IsBody};
-ghost use Rattle.running_ahead.specs.Recursion.{FoundBy, Gives, InsideBy, IsBegun, IsCalled, ReturnsBy, begun, deep};
 
 use activations::code::instruction;
 use evaluation::slot::Slot;
@@ -34,7 +34,7 @@ pub enum Found {
 
 /// Whether each statement of a procedure is one whose outcome may be found so, by a look at them: it calls itself and no other one,
 /// and reads nothing. Nothing is claimed of it.
-pub(crate) fn calls_itself(program: &Checked, procedure: usize) -> bool {
+pub fn calls_itself(program: &Checked, procedure: usize) -> bool {
     match program.codes().get(procedure) {
         Some(code) => match code.blocks.first() {
             Some(body) => is_own_body(body, procedure) && are_short(&code.blocks),
@@ -106,18 +106,18 @@ fn is_silent(expression: &Expression) -> bool {
 
 /// A procedure whose instances call no other one: its number, and its body; and how many levels there are below an instance.
 #[derive(Clone, Copy)]
-pub(crate) struct Own<'a> {
-    pub(crate) procedure: usize,
-    pub(crate) body: &'a [Instruction],
-    pub(crate) left: u32,
+pub struct Own<'a> {
+    pub procedure: usize,
+    pub body: &'a [Instruction],
+    pub left: u32,
 }
 
 /// An instance that is to be entered: whether it is called, of which procedure it is, and its arguments.
 #[derive(Clone, Copy)]
-pub(crate) struct Enters<'a> {
-    pub(crate) way: Way,
-    pub(crate) callee: usize,
-    pub(crate) arguments: &'a [Expression],
+pub struct Enters<'a> {
+    pub way: Way,
+    pub callee: usize,
+    pub arguments: &'a [Expression],
 }
 
 /// Whether an instance that is entered so is spawned.
@@ -274,7 +274,7 @@ fn begin(window: &mut [Slot], arguments: &[Expression], slots: &[Slot]) -> bool
 /// The value of an instance that one with those slots enters, where it is called and of the same procedure.
 #[inline(always)]
 #[cycle(calling)]
-pub(crate) fn called(
+pub fn called(
     program: &Checked,
     own: Own<'_>,
     slots: &[Slot],

@@ -1,7 +1,7 @@
 use Rattle.std.proofs.Common.{map, take}
 use Rattle.linked_program.specs.CodeView.{expression}
-use Rattle.running_ahead.specs.Recursion.{IsBegun}
-use Rattle.running_ahead.proofs.recursion.begin.Given as goal
+use Rattle.own_statements.specs.Recursion.{IsBegun}
+use Rattle.own_statements.proofs.recursion.begin.Given as goal
 
 abbrev pub invariant-loop-place : goal.invariant-loop-place
 invariant-loop-place l = record {

@@ -26,8 +26,8 @@ use Rattle.positions.specs.Setting.{Setting, setting_with}
 use Rattle.positions.specs.Strands.{PlainStrand, entry_by}
 use Rattle.positions.specs.Tallies.{is_own}
 use Rattle.own_statements.specs.Paths.{IsPath, MayPass, topped}
-use Rattle.running_ahead.specs.declared.recursion.Found.{Found}
-use Rattle.running_ahead.specs.declared.recursion.Found.TheVariants.{Nothing, Next, Gave}
+use Rattle.own_statements.specs.declared.recursion.Found.{Found}
+use Rattle.own_statements.specs.declared.recursion.Found.TheVariants.{Nothing, Next, Gave}
 
 -- no instance above the topmost one, of so many levels, begins the strand or owns the topmost layer
 pub record HasRoomAbove (left : ℕ) (s : PlainStrand) : Type 0 where

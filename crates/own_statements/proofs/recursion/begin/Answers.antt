@@ -4,9 +4,9 @@ use Rattle.std.proofs.lemmas.Option.{slice_get_read}
 use Rattle.linked_program.specs.declared.code.Expression.{Expression}
 use Rattle.linked_program.specs.CodeView.{expression}
 use Rattle.evaluation.specs.Values.{pure}
-use Rattle.running_ahead.specs.Recursion.{IsBegun}
-use Rattle.running_ahead.proofs.OwnCalls.{begun_more}
-use Rattle.running_ahead.proofs.recursion.begin.Goals as goal
+use Rattle.own_statements.specs.Recursion.{IsBegun}
+use Rattle.own_statements.proofs.OwnCalls.{begun_more}
+use Rattle.own_statements.proofs.recursion.begin.Goals as goal
 
 pub loop-place-init : goal.loop-place-init
 loop-place-init c = record { begun = record { numbers = []; values = tt; laid = refl } }

@@ -1,5 +1,6 @@
 -- Instances of a procedure that calls itself: the small steps of their statements, and of a call.
-use Rattle.std.proofs.Common.{◌≡◌, ◌∙◌, ◌++◌, ◌∷◌, [], ◌+◌, ◌-◌, ◌<◌, ◌≤◌, ◌==◌, ℕ, zero, suc, ℤ, pos, Bool, true, false, List, Option, Some, None, Ok, length, map, max, min, take, replicate, if◌then◌else◌, slice_set, slice_get, add-one, refl, sym, ap, subst, arith, append_assoc}
+use Rattle.std.proofs.Common.{◌≡◌, ◌∙◌, ◌++◌, ◌∷◌, [], ◌+◌, ◌-◌, ◌<◌, ◌≤◌, ◌==◌, ℕ, zero, suc, ℤ, pos, Bool, true, false, List, Option, Some, None, length, map, max, min, take, replicate, if◌then◌else◌, slice_set, slice_get, add-one, refl, sym, ap, subst, arith, append_assoc}
+use Rattle.std.proofs.Math.Seq.{take-append_seam}
 use Rattle.std.proofs.lemmas.List.{append-nil, take-replicate, length-append, map-append}
 use Rattle.meaning.specs.declared.tree.Way.{Way}
 use Rattle.meaning.specs.declared.tree.Way.TheVariants.{Call}
@@ -30,20 +31,22 @@ use Rattle.positions.specs.Activations.{PlainActivation, bound, waiting, with_sl
 use Rattle.positions.specs.Code.{instruction_inside}
 use Rattle.positions.specs.Layers.{PlainLayer, kept_behind, noting, entering}
 use Rattle.positions.specs.Setting.{Setting, setting_with}
-use Rattle.positions.specs.Strands.{PlainStrand, entry_by, is_entry}
+use Rattle.positions.specs.Strands.{PlainStrand, entry_by, is_entry, shorter}
 use Rattle.positions.specs.Tallies.{is_own}
-use Rattle.positions.specs.Advance.{advanced, performed, gone_by, evaluated, answered, noted, choosing, giving, moved_on, binding, called, called_as, started_as, pushed, child_of, faulted, closed, owns_top, in_phase}
-use Rattle.own_statements.specs.Paths.{IsNext, IsPath, here, on, MayPass, topped}
+use Rattle.positions.specs.Advance.{advanced, performed, gone_by, evaluated, choosing, giving, moved_on, binding, called, called_as, started_as, pushed, child_of, faulted, closed, owns_top, in_phase}
+use Rattle.own_statements.specs.Paths.{IsNext, IsPath, here, on, topped}
+use Rattle.own_statements.specs.declared.recursion.Found.{Found}
+use Rattle.own_statements.specs.declared.recursion.Found.TheVariants.{Nothing, Next, Gave}
+use Rattle.own_statements.specs.Recursion.{HasRoomAbove, deep, begun, standing, Gives, Comes, GivesOf, ReturnsBy, InsideBy, FoundBy, AreValues, laid_over, IsBegun, IsCalled}
 use Rattle.own_statements.proofs.Paths.{path_join}
-use Rattle.small_steps.proofs.Refusals.{path_back}
-use Rattle.small_steps.specs.Steps.{nested_plain, entered_plain}
-use Rattle.running_ahead.proofs.Paths.{way_of, enter_ahead}
-use Rattle.running_ahead.specs.Ahead.{IsAhead, GoesAhead}
-use Rattle.running_ahead.specs.declared.recursion.Found.{Found}
-use Rattle.running_ahead.specs.declared.recursion.Found.TheVariants.{Nothing, Next, Gave}
-use Rattle.running_ahead.specs.Recursion.{HasRoomAbove, deep, begun, standing, Gives, Comes, GivesOf, ReturnsBy, InsideBy, FoundBy, AreValues, laid_over, IsBegun, IsCalled}
 
--- ---- layers
+-- ---- names and layers
+
+path_back : (xs : List ℕ) (x : ℕ) → shorter (xs ++ x ∷ []) ≡ xs
+path_back xs x =
+    let e : length (xs ++ x ∷ []) ≡ length xs + 1 = length-append xs (x ∷ []) in
+    let f : length (xs ++ x ∷ []) - 1 ≡ length xs = omega arith in
+    ap (λ n. take n (xs ++ x ∷ [])) f ∙ take-append_seam xs (x ∷ [])
 
 none_noted : (b : Bool) (xs : List Note) → kept_behind b xs [] ≡ xs
 none_noted true xs = append-nil xs
@@ -214,15 +217,6 @@ module _ (setting : Setting) (s : PlainStrand) (name : Option ℕ) (w : Work) (f
     comes_back =
         on (topped (Leaving v) gives.last n with_child) back (on returned (topped (Leaving v) gives.last n with_child) (gives.way with_child (λ _. room.entry (s.top.children + 1) []) above_child) leaving) left_then
 
-    -- it goes ahead so, where it is entered
-    pub found_ahead : (number : ℕ) → memo_of setting.codes f ≡ false → k ≡ entering f (depth_limit - (s.top.left - 1)) s.layer → n.kinds ≡ s.layer.kinds
-        → IsAhead setting (nested_plain number Call name w f args s) back
-    found_ahead number memo layer kinds =
-        let start = topped Running child k with_child in
-        let begun : nested_plain number Call name w f args s ≡ start =
-        ap (λ b. if b then faulted number TooDeep s else entered_plain Call name w f args s) deep_enough ∙ ap (λ (l : PlainLayer). topped Running child l with_child) (sym layer) in
-        subst (λ (u : PlainStrand). IsAhead setting u back) (sym begun) (record { way = way_of setting start back comes_back; lower = refl; kinds = kinds ∙ ap (λ (l : PlainLayer). l.kinds) (sym layer); tally = refl })
-
 -- the next statement of an instance of a procedure calls another one
 module _ (setting : Setting) (f left : ℕ) (slots : List Slot) (p : Position) (children : ℕ) (spawned : Bool) (into : Option ℕ) (m : PlainLayer) (s : PlainStrand) where
   abbrev pub caller : PlainStrand
@@ -301,9 +295,6 @@ comes_over setting a l f slots p m come none =
 
 -- ---- what is found of a call
 
-min_less : (n : ℕ) → min n (n - 1) ≡ n - 1
-min_less n = omega arith
-
 module _ (c : PlainChecked) (tables : Tables) (records : List PlainRecord) (f left least : ℕ) (slots : List Slot) (way : Way) (callee : ℕ) (es : List Linked) (v : ℤ) (new : ℕ) (is : IsCalled c f left least slots way callee es v new) (size : length slots ≡ slots_of c.codes f) where
   abbrev pub over : Setting
   over = setting_with c tables [] records
@@ -327,25 +318,6 @@ comes_found c tables records a start l f least new slots p i op name way callee 
     comes_called (setting_with c tables [] records) a start f slots p (deep f least l) come i found op name way callee es (begun_slots c tables records f a.left least slots way callee es v new called_so size) v
     (deep f (min least (a.left - 1)) l) (deep f new l) is does called_so.call called_so.own called_so.room memo
     (begun_with c tables records f a.left least slots way callee es v new called_so size) (sym (deep_twice f least (a.left - 1) l)) (is_given c tables records f a.left least slots way callee es v new called_so size l)
-
--- where the topmost instance of a strand calls one of its own procedure
-pub found_goes : (c : PlainChecked) (tables : Tables) (records : List PlainRecord) (s : PlainStrand) (statement : ℕ) (way : Way) (name : Option ℕ) (w : Work) (f new : ℕ) (es : List Linked) (v : ℤ)
-    → IsCalled c f s.top.left s.top.left s.top.slots way f es v new → length s.top.slots ≡ slots_of c.codes f → memo_of c.codes f ≡ false → HasRoomAbove s.top.left s
-    → GoesAhead (setting_with c tables [] records) (evaluated statement (entry_at tables s.top.slots (slots_of c.codes f) es) (nested_plain statement way name w f)) s
-    (record s { layer = entering f (depth_limit - new) s.layer; top = bound name (Has v) (waiting false name w s.top); phase = Running })
-found_goes c tables records s statement way name w f new es v called_so size memo room e =
-    let S = setting_with c tables [] records in
-    let args = begun_slots c tables records f s.top.left s.top.left s.top.slots way f es v new called_so size in
-    let q = entry_at tables s.top.slots (slots_of c.codes f) es in
-    let value : q ≡ pure args = begun_with c tables records f s.top.left s.top.left s.top.slots way f es v new called_so size in
-    let k = deep f (min s.top.left (s.top.left - 1)) s.layer in
-    let layer : k ≡ entering f (depth_limit - (s.top.left - 1)) s.layer = ap (λ (n : ℕ). deep f n s.layer) (min_less s.top.left) in
-    let end = record s { layer = entering f (depth_limit - new) s.layer; top = bound name (Has v) (waiting false name w s.top); phase = Running } in
-    let ahead : IsAhead S (nested_plain statement Call name w f args s) end =
-    found_ahead S s name w f args room called_so.room v k (deep f new s.layer) (is_given c tables records f s.top.left s.top.left s.top.slots way f es v new called_so size s.layer) statement memo layer refl in
-    let same : s ≡ noted q.notes s = sym (ap (λ (x : NumberedOut (List Slot)). noted x.notes s) value ∙ ap (λ (l : PlainLayer). record s { layer = l }) (noting_none s.layer)) in
-    enter_ahead S statement q way name w f args s s end (ap (λ (x : NumberedOut (List Slot)). x.answer) value) same
-    (subst (λ (u : Way). IsAhead S (nested_plain statement u name w f args s) end) (sym called_so.call) ahead) e
 
 -- ---- the slots of an instance that begins
 
@@ -428,17 +400,3 @@ pub is_called : (c : PlainChecked) (f left least : ℕ) (slots : List Slot) (way
     → IfSome res (λ v. IsCalled c f left least slots way callee es v after)
 is_called c f left least slots way callee es numbers after None call own room values gives = tt
 is_called c f left least slots way callee es numbers after (Some v) call own room values gives = record { call = call; own = own; room = room; numbers = numbers; values = values; gives = gives }
-
--- ---- a strand whose topmost instance has room above it
-
-pub room_by : (left : ℕ) (s : PlainStrand) → ((path : List ℕ) → length s.path < length path → entry_by s.start path ≡ false) → ((n : ℕ) → n < left → is_own s.tally.opened (length s.path + 1 + n) ≡ false) → HasRoomAbove left s
-room_by left s begins owned = record {
-  entry = λ n ns.
-      let long : length (s.path ++ n ∷ ns) ≡ length s.path + length (n ∷ ns) = length-append s.path (n ∷ ns) in
-      let longer : length s.path < length (s.path ++ n ∷ ns) = omega (arith, long) in
-      begins (s.path ++ n ∷ ns) longer;
-  own = λ n ns fewer.
-      let long : length (s.path ++ n ∷ ns) ≡ length s.path + length (n ∷ ns) = length-append s.path (n ∷ ns) in
-      let longer : length (s.path ++ n ∷ ns) ≡ length s.path + 1 + length ns = omega (arith, long) in
-      ap (λ k. is_own s.tally.opened k) longer ∙ owned (length ns) fewer;
-}

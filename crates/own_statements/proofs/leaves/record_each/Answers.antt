@@ -5,9 +5,9 @@ use Rattle.positions.specs.Advance.{record_for}
 use Rattle.positions.specs.Tallies.{PlainOpened, PlainTally}
 use Rattle.activations.specs.Given.{lent}
 use Rattle.own_statements.specs.Runs.{IsBody}
-use Rattle.running_ahead.specs.Leaves.{AreLeaves, IsLeaf, PlainLeaf, leaf_behind, no_leaf, one_behind, plain_leaf}
-use Rattle.running_ahead.proofs.LeafChains.{leaves_opened}
-use Rattle.running_ahead.proofs.leaf_chain.record_each.Goals as goal
+use Rattle.own_statements.specs.Leaves.{AreLeaves, IsLeaf, PlainLeaf, leaf_behind, no_leaf, one_behind, plain_leaf}
+use Rattle.own_statements.proofs.LeavesOpened.{leaves_opened}
+use Rattle.own_statements.proofs.leaves.record_each.Goals as goal
 
 pub loop-done-init : goal.loop-done-init
 loop-done-init g c = record { leaves = no_leaf; blank = c.requires.blank; kinds = refl; values = λ h. h }

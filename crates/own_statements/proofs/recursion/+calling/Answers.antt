@@ -20,9 +20,9 @@ use Rattle.positions.specs.Code.{instruction_inside}
 use Rattle.positions.specs.Layers.{PlainLayer}
 use Rattle.positions.specs.Setting.{setting_with}
 use Rattle.own_statements.specs.Paths.{here}
-use Rattle.running_ahead.specs.Recursion.{Comes, Gives, begun, deep, IsBegun, IsCalled}
-use Rattle.running_ahead.proofs.OwnCalls.{comes_next, comes_gave, comes_over, comes_found, begun_first, values_are, is_called}
-use Rattle.running_ahead.proofs.recursion.+calling.Goals as goal
+use Rattle.own_statements.specs.Recursion.{Comes, Gives, begun, deep, IsBegun, IsCalled}
+use Rattle.own_statements.proofs.OwnCalls.{comes_next, comes_gave, comes_over, comes_found, begun_first, values_are, is_called}
+use Rattle.own_statements.proofs.recursion.+calling.Goals as goal
 
 pub value_of-loop-index-init : goal.value_of-loop-index-init
 value_of-loop-index-init t c = record { size = refl; come = λ ts rs m. record { children = 0; spawned = false; into = None; way = λ s may room. here } }

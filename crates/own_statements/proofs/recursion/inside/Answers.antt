@@ -1,8 +1,8 @@
 use Rattle.std.proofs.Common.{rules, ◌≡◌, Some}
 use Rattle.positions.specs.Activations.{first_of}
 use Rattle.positions.specs.Code.{instruction_inside}
-use Rattle.running_ahead.proofs.OwnCalls.{begins_with}
-use Rattle.running_ahead.proofs.recursion.inside.Goals as goal
+use Rattle.own_statements.proofs.OwnCalls.{begins_with}
+use Rattle.own_statements.proofs.recursion.inside.Goals as goal
 
 pub returns-in-Some : goal.returns-in-Some
 returns-in-Some c =
