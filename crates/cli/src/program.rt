@@ -25,10 +25,10 @@ use program_endings::session_error::SessionError;
 use program_endings::streams::Failures;
 use report_files::ReportFiles;
 use report_files::files::{FileSource, StandardError};
-use script_session::NoGate;
 use script_session::live::answer_lines;
 use script_session::runner::Runner;
 use script_session::session::answer_whole;
+use script_session::{NoGate, Tally};
 use session_notes::explained::{Crew, Explain, Explained};
 use session_notes::notes::Notes;
 use session_notes::run_notes::{NotesError, RunNotes};
@@ -326,7 +326,11 @@ fn answered<V: View, N: Notes, R: Read, W: Write, T: Threads + Wait + Sync>(
     if live {
         return answer_lines(runner, session, notes, reader, writer, failures);
     }
-    answer_whole(runner, session, notes, reader, writer, failures)
+    let mut left = Tally::new(runner.alloc);
+    let answered = answer_whole(runner, session, notes, reader, writer, failures, &mut left);
+    // As of the session: the program ends now, so records that nobody asks for any more aren't given back one by one.
+    let _ = ManuallyDrop::new(left);
+    answered
 }
 
 // The session of a program's file and a tables' file.

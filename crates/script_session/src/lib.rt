@@ -5,4 +5,4 @@ pub mod live;
 pub mod runner;
 pub mod session;
 
-pub use threaded_driver::NoGate;
+pub use threaded_driver::{NoGate, Tally};

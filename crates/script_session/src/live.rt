@@ -12,7 +12,7 @@ ghost use Rattle.program_endings.specs.Endings.{CarriesRefusal};
 ghost use Rattle.program_endings.specs.Written.{HasBeginning, WritesAll, WritesBeginning, WritesRead};
 
 use crate::runner::Runner;
-use crate::session::{answer_written, gather_behind};
+use crate::session::{answer_written, settle_behind};
 use kept_session::Session;
 use program_endings::session_error::SessionError;
 use program_endings::streams::{Failures, flush, read_line};
@@ -20,7 +20,7 @@ use script_reader::command::Command;
 use script_reader::open_script::{Found, OpenScript};
 use session_edits::Edit;
 use session_notes::notes::Notes;
-use std::alloc::Global;
+use std::alloc::{AllocError, Global};
 use std::io::{Read, Write};
 use std::sync::Wait;
 use std::thread::Threads;
@@ -228,8 +228,8 @@ fn answer_rest<V: View, N: Notes, W: Write, T: Threads + Wait + Sync, G: Gate>(
     }
 }
 
-// Writes the answer to a command after so many runs, flushes it, and counts its run. Only then are blocks made of the run's records, for
-// which nobody has to wait so.
+// Writes the answer to a command after so many runs, flushes it, and counts its run. Only then are the run's records put in and blocks
+// made of them, for which nobody has to wait so; where memory is refused for them the answer stands written.
 fn answer_now<V: View, N: Notes, W: Write, T: Threads + Wait + Sync, G: Gate>(
     runner: &Runner<'_, T, G>,
     session: &mut Session<V>,
@@ -262,7 +262,13 @@ fn answer_now<V: View, N: Notes, W: Write, T: Threads + Wait + Sync, G: Gate>(
 {
     let answered = answer_written(runner, session, notes, *runs, command, writer, failures);
     let flushed = flush(writer, failures);
-    *runs = answered?;
-    gather_behind(runner.alloc, session, command, true);
-    flushed
+    let written = answered?;
+    *runs = written.0;
+    match flushed {
+        Ok(()) => match settle_behind(runner.alloc, session, written.1) {
+            Ok(()) => Ok(()),
+            Err(AllocError) => Err(SessionError::NoMemory),
+        },
+        Err(error) => Err(error),
+    }
 }

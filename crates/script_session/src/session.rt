@@ -1,10 +1,10 @@
 // The answers to a session's script, from a reader to a writer.
-ghost use Rattle.std.specs.Prelude.{◌≡◌, ◌≢◌, ◌⊎◌, ◌+◌, ◌<◌, ◌≤◌, ◌^◌, [], true, Err, length, IfOk, IfErr, OnOk, OnErr};
+ghost use Rattle.std.specs.Prelude.{◌≡◌, ◌≢◌, ◌⊎◌, ◌+◌, ◌<◌, ◌≤◌, ◌^◌, [], true, Err, length, IfOk, IfErr, IfSome, OnOk, OnErr};
 ghost use Rattle.std.specs.Io.KnownBytes.{Appends, Keeps, IsAtEnd};
 ghost use Rattle.meaning.specs.Text.{edit_text, runs_after};
 ghost use Rattle.session_edits.specs.Said as edits;
 ghost use Rattle.script_reader.specs.Said.{said};
-ghost use Rattle.kept_session.specs.Sessions.{standing_of};
+ghost use Rattle.kept_session.specs.Sessions.{AreNewFor, standing_of};
 ghost use Rattle.kept_session.specs.Applied.{edited};
 ghost use Rattle.trace_report.specs.Outcomes.{Extends};
 ghost use Rattle.script_session.specs.Answers.{answer_text, left_by_edit, run_answer, standing_after};
@@ -27,11 +27,11 @@ use script_reader::script::commands;
 use session_edits::Edit;
 use session_notes::explained::Cause;
 use session_notes::notes::Notes;
-use std::alloc::Global;
+use std::alloc::{AllocError, Global};
 use std::io::{Read, Write};
 use std::sync::Wait;
 use std::thread::Threads;
-use threaded_driver::{Gate, run_threads};
+use threaded_driver::{Ended, Gate, Tally, run_unsettled};
 use trace_report::answers::{answer_text, push_unknown};
 use trace_report::edits::{push_accepted, push_edit_refusal};
 use view_pool::View;
@@ -73,12 +73,22 @@ pub fn session_text<V: View, N: Notes, R: Read, W: Write, T: Threads + Wait + Sy
         → N.failed notes.new ≡ N.failed notes.old }
 {
     let mut session = session;
-    let answered = answer_whole(runner, &mut session, notes, reader, writer, failures);
+    let mut left = Tally::new(runner.alloc);
+    let answered = answer_whole(
+        runner,
+        &mut session,
+        notes,
+        reader,
+        writer,
+        failures,
+        &mut left,
+    );
     session.end();
     answered
 }
 
-/// Does what `session_text` does in a session that is only lent: who owns it goes on with it, or ends it.
+/// Does what `session_text` does in a session that is only lent: who owns it goes on with it, or ends it. The records of the script's
+/// last run, behind which none asks for them, aren't put into the session: they are left to the caller, in a tally.
 pub fn answer_whole<V: View, N: Notes, R: Read, W: Write, T: Threads + Wait + Sync, G: Gate>(
     runner: &Runner<'_, T, G>,
     session: &mut Session<V>,
@@ -86,6 +96,7 @@ pub fn answer_whole<V: View, N: Notes, R: Read, W: Write, T: Threads + Wait + Sy
     reader: &mut R,
     writer: &mut W,
     failures: &mut Failures,
+    left: &mut Tally,
 ) -> Result<(), SessionError>
     requires workers { (0 < runner.now.workers) × (runner.now.workers ≤ 16) }
     ensures answered { OnOk result (WritesAll (answers_of session.old)
@@ -111,13 +122,13 @@ pub fn answer_whole<V: View, N: Notes, R: Read, W: Write, T: Threads + Wait + Sy
 {
     let script = read_all(runner.alloc, reader, failures)?;
     let text = script.as_slice();
-    let answered = answer_script(runner, session, notes, text, writer, failures);
+    let answered = answer_script(runner, session, notes, text, writer, failures, left);
     let flushed = flush(writer, failures);
     answered?;
     flushed
 }
 
-// Writes the answers to a script.
+// Writes the answers to a script, and leaves its last run's records in that tally.
 fn answer_script<V: View, N: Notes, W: Write, T: Threads + Wait + Sync, G: Gate>(
     runner: &Runner<'_, T, G>,
     session: &mut Session<V>,
@@ -125,6 +136,7 @@ fn answer_script<V: View, N: Notes, W: Write, T: Threads + Wait + Sync, G: Gate>
     script: &[u8],
     writer: &mut W,
     failures: &mut Failures,
+    left: &mut Tally,
 ) -> Result<(), SessionError>
     requires workers { (0 < runner.now.workers) × (runner.now.workers ≤ 16) }
     ensures written { OnOk result (Appends (W.contents writer.old) (W.contents writer.new)
@@ -148,8 +160,11 @@ fn answer_script<V: View, N: Notes, W: Write, T: Threads + Wait + Sync, G: Gate>
     let all = count_runs(&commands);
     let mut runs = 0;
     for command in commands.iter() {
-        runs = answer_written(runner, session, notes, runs, command, writer, failures)?;
-        gather_behind(runner.alloc, session, command, runs < all);
+        let written = answer_written(runner, session, notes, runs, command, writer, failures)?;
+        runs = written.0;
+        if keep_behind(runner.alloc, session, written.1, runs < all, left).is_err() {
+            return Err(SessionError::NoMemory);
+        }
     }
     Ok(())
 }
@@ -165,22 +180,58 @@ fn count_runs(commands: &[Command<'_>]) -> usize {
     runs
 }
 
-/// Makes blocks of a run's new records behind that command, if it is a run, and if another one may come that asks for them.
-pub(crate) fn gather_behind<V: View>(
+// Puts the new records of a run, if there was one, into the session that it has left, where another run may ask for them, and otherwise
+// leaves them in that tally.
+fn keep_behind<V: View>(
     alloc: Global,
     session: &mut Session<V>,
-    command: &Command<'_>,
+    tally: Option<Tally>,
     are_asked: bool,
-)
+    left: &mut Tally,
+) -> Result<(), AllocError>
+    requires news { IfSome tally (λ tally. AreNewFor session.old.checked session.old.tables tally.made) }
     ensures same { standing_of session.new ≡ standing_of session.old }
     ensures free { length session.new.kits.kits ≡ length session.old.kits.kits }
 {
-    if are_asked && matches!(command, Command::Run) {
-        session.gather(alloc);
+    if are_asked {
+        return settle_behind(alloc, session, tally);
+    }
+    if let Some(tally) = tally {
+        *left = tally;
+    }
+    Ok(())
+}
+
+/// Puts the new records of a run, if there was one, into the session that it has left, and makes blocks of them. Where memory is refused
+/// the session's records are as they were.
+pub(crate) fn settle_behind<V: View>(
+    alloc: Global,
+    session: &mut Session<V>,
+    tally: Option<Tally>,
+) -> Result<(), AllocError>
+    requires news { IfSome tally (λ tally. AreNewFor session.old.checked session.old.tables tally.made) }
+    ensures same { standing_of session.new ≡ standing_of session.old }
+    ensures free { length session.new.kits.kits ≡ length session.old.kits.kits }
+{
+    match tally {
+        None => Ok(()),
+        Some(tally) => {
+            // The session's kits are of its program's kinds, as those that are put back have to be.
+            session.upheld();
+            let pool = session.take_pool(alloc);
+            match session.settle(pool, tally.into_records()) {
+                Ok(()) => {
+                    session.gather(alloc);
+                    Ok(())
+                }
+                Err(AllocError) => Err(AllocError),
+            }
+        }
     }
 }
 
-/// Writes the answer to a command, after so many runs, and gives the number of runs after it.
+/// Writes the answer to a command, after so many runs, and gives the number of runs after it, and of a run the new records, which
+/// aren't put in yet.
 pub(crate) fn answer_written<V: View, N: Notes, W: Write, T: Threads + Wait + Sync, G: Gate>(
     runner: &Runner<'_, T, G>,
     session: &mut Session<V>,
@@ -189,7 +240,7 @@ pub(crate) fn answer_written<V: View, N: Notes, W: Write, T: Threads + Wait + Sy
     command: &Command<'_>,
     writer: &mut W,
     failures: &mut Failures,
-) -> Result<usize, SessionError>
+) -> Result<(usize, Option<Tally>), SessionError>
     requires few { runs + 1 < 2 ^ 64 }
     requires workers { (0 < runner.now.workers) × (runner.now.workers ≤ 16) }
     ensures written { OnOk result (Appends (W.contents writer.old) (W.contents writer.new)
@@ -198,7 +249,9 @@ pub(crate) fn answer_written<V: View, N: Notes, W: Write, T: Threads + Wait + Sy
         (answer_text (standing_of session.old) runs (said command.now)) }
     ensures after { OnOk result (standing_of session.new
         ≡ standing_after (standing_of session.old) (said command.now)) }
-    ensures runs { IfOk result (λ n. n ≡ runs_after runs (said command.now)) }
+    ensures runs { IfOk result (λ n. n.0 ≡ runs_after runs (said command.now)) }
+    ensures news { IfOk result (λ n. IfSome n.1 (λ tally.
+        AreNewFor session.new.checked session.new.tables tally.made)) }
     ensures refused { IfErr result (λ e. IsAnswerError e ⊎ IsWriterError e) }
     ensures mismatch { IfErr result CarriesRefusal }
     ensures no_kit { result ≡ Err SessionError.NoKit → session.old.kits.kits ≡ [] }
@@ -211,12 +264,13 @@ pub(crate) fn answer_written<V: View, N: Notes, W: Write, T: Threads + Wait + Sy
         → N.failed notes.new ≡ N.failed notes.old }
 {
     let mut text = String::new(runner.alloc);
-    let runs = answer(runner, session, notes, runs, command, &mut text)?;
+    let answered = answer(runner, session, notes, runs, command, &mut text)?;
     write_whole(writer, text.as_bytes(), failures)?;
-    Ok(runs)
+    Ok(answered)
 }
 
-// Puts the answer to a command, after so many runs, at the end of the text, and gives the number of runs after it.
+// Puts the answer to a command, after so many runs, at the end of the text, and gives the number of runs after it, and of a run the
+// new records.
 fn answer<V: View, N: Notes, T: Threads + Wait + Sync, G: Gate>(
     runner: &Runner<'_, T, G>,
     session: &mut Session<V>,
@@ -224,14 +278,16 @@ fn answer<V: View, N: Notes, T: Threads + Wait + Sync, G: Gate>(
     runs: usize,
     command: &Command<'_>,
     text: &mut String,
-) -> Result<usize, SessionError>
+) -> Result<(usize, Option<Tally>), SessionError>
     requires few { runs + 1 < 2 ^ 64 }
     requires workers { (0 < runner.now.workers) × (runner.now.workers ≤ 16) }
     ensures answered { OnOk result (Extends text.old text.new
         (answer_text (standing_of session.old) runs (said command.now))) }
     ensures after { OnOk result (standing_of session.new
         ≡ standing_after (standing_of session.old) (said command.now)) }
-    ensures runs { IfOk result (λ n. n ≡ runs_after runs (said command.now)) }
+    ensures runs { IfOk result (λ n. n.0 ≡ runs_after runs (said command.now)) }
+    ensures news { IfOk result (λ n. IfSome n.1 (λ tally.
+        AreNewFor session.new.checked session.new.tables tally.made)) }
     ensures refused { IfErr result IsAnswerError }
     ensures mismatch { IfErr result CarriesRefusal }
     ensures no_kit { result ≡ Err SessionError.NoKit → session.old.kits.kits ≡ [] }
@@ -248,15 +304,15 @@ fn answer<V: View, N: Notes, T: Threads + Wait + Sync, G: Gate>(
                 session.checked(),
                 session.tables(),
             );
-            Ok(runs)
+            Ok((runs, None))
         }
         Command::Change(edit) => {
             change(runner.alloc, session, notes, edit, text)?;
-            Ok(runs)
+            Ok((runs, None))
         }
         Command::Run => {
-            run_once(runner, session, notes, runs + 1, text)?;
-            Ok(runs + 1)
+            let tally = run_once(runner, session, notes, runs + 1, text)?;
+            Ok((runs + 1, Some(tally)))
         }
     }
 }
@@ -288,18 +344,20 @@ fn change<V: View, N: Notes>(
     }
 }
 
-// Runs once, puts the line of the run of that number and what it came to at the end of the text, and tells the notes of it, before and after.
+// Runs once, puts the line of the run of that number and what it came to at the end of the text, and tells the notes of it, before and
+// after. The run's new records aren't put in yet.
 fn run_once<V: View, N: Notes, T: Threads + Wait + Sync, G: Gate>(
     runner: &Runner<'_, T, G>,
     session: &mut Session<V>,
     notes: &mut N,
     number: usize,
     text: &mut String,
-) -> Result<(), SessionError>
+) -> Result<Tally, SessionError>
     requires workers { (0 < runner.now.workers) × (runner.now.workers ≤ 16) }
     ensures answered { OnOk result (Extends text.old text.new
         (run_answer (standing_of session.old) number)) }
     ensures same { standing_of session.new ≡ standing_of session.old }
+    ensures news { IfOk result (λ tally. AreNewFor session.new.checked session.new.tables tally.made) }
     ensures refused { IfErr result IsAnswerError }
     ensures mismatch { IfErr result CarriesRefusal }
     ensures no_kit { result ≡ Err SessionError.NoKit → session.old.kits.kits ≡ [] }
@@ -311,22 +369,28 @@ fn run_once<V: View, N: Notes, T: Threads + Wait + Sync, G: Gate>(
     // The session's records are in step with its tables, as notes of a run ask for.
     session.upheld();
     notes.begin(session.checked(), session.tables(), session.records());
-    let (answer, history) = run_threads(
+    let ended = run_unsettled(
         runner.rt,
         runner.alloc,
         session,
         runner.workers,
         runner.gate,
     )?;
+    let Ended {
+        answer,
+        tally,
+        steps,
+    } = ended;
     tell(
         runner.alloc,
         session,
         notes,
         number,
         &answer,
-        history.as_slice(),
+        steps.as_slice(),
         text,
-    )
+    )?;
+    Ok(tally)
 }
 
 // Puts the line of the run of that number and what it came to at the end of the text, and tells the notes of it.

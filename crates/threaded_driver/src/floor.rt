@@ -585,6 +585,25 @@ impl<'a, J: Run + Ledger + Stocked + Send, D: Deques, V: View> Floor<'a, J, D, V
         ensures kinds_back { IfErr result (λ e. All (λ k. k ≡ J.setting.kinds) e.1.kits) }
         ensures total_back { IfErr result (λ e. e.1.total ≡ J.total) }
     {
+        let (ran, pool) = self.end(seats);
+        match ran {
+            Ok(ended) => Ok((ended.answer, pool, ended.tally.into_records(), ended.steps)),
+            Err(mismatch) => Err((mismatch, pool)),
+        }
+    }
+
+    /// How a run has ended that the workers on these seats have left, and the kits that are home.
+    pub(crate) fn end(self, seats: Vec<Seat<J, D>>) -> (Result<Ended, Mismatch>, Pool<Kit<V>>)
+        requires some { 0 < length seats.items }
+        requires left { All (λ seat. 0 < seat.left) seats.items }
+        ensures end { IfOk result.0 (IsEnd J.setting) }
+        ensures refusal { IfErr result.0 (λ m. is_refusal m.refusal ≡ true) }
+        ensures refused { IfErr result.0 (λ m. WasRefused m.refusal) }
+        ensures near { IfErr result.0 (λ m. is_apart m.refusal ≡ false) }
+        ensures home { IfOk result.0 (λ e. HasEnded e.answer → length result.1.kits ≡ self.entry.kits) }
+        ensures kinds { All (λ k. k ≡ J.setting.kinds) result.1.kits }
+        ensures total { result.1.total ≡ J.total }
+    {
         let mut seats = seats;
         let (ran, pool) = match seats.pop() {
             Some(seat) => self.close(seat),
@@ -592,8 +611,8 @@ impl<'a, J: Run + Ledger + Stocked + Send, D: Deques, V: View> Floor<'a, J, D, V
         };
         let pool = pool.into_pool();
         match ran {
-            Ok(ended) => Ok((ended.answer, pool, ended.tally.into_records(), ended.steps)),
-            Err(mismatch) => Err((mismatch, pool)),
+            Ok(ended) => (Ok(ended), pool),
+            Err(mismatch) => (Err(mismatch), pool),
         }
     }
 

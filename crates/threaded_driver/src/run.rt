@@ -7,7 +7,8 @@ ghost use Rattle.record_theory.specs.Named.{HaveValues};
 ghost use Rattle.positions.specs.Setting.{setting_with};
 ghost use Rattle.numbered_runs.specs.Named.{history};
 ghost use Rattle.numbered_runs.specs.News.{AreSound};
-ghost use Rattle.kept_session.specs.Sessions.{standing_of};
+ghost use Rattle.numbered_runs.specs.Recorded.{HasRecordedBy};
+ghost use Rattle.kept_session.specs.Sessions.{AreNewFor, standing_of, stock_of};
 ghost use Rattle.session_runs.specs.Runs.{IsFromScratch, LeavesRecords, IsQuietAfter};
 ghost use Rattle.numbered_runs.specs.Come.{HasCome, HasEnded};
 ghost use Rattle.worker_seats.specs.Histories.{HasHistory};
@@ -28,6 +29,7 @@ use linked_program::checked::Checked;
 use numbered_runs::step::BookStep;
 use positions::answer::RunAnswer;
 use rerun_records::records::Records;
+use right_strands::laid::Tally;
 use right_strands::run::Run;
 use small_steps::lists::WorkLists;
 use std::alloc::{AllocError, Global};
@@ -91,6 +93,77 @@ pub fn run_threads<V: View + Send, R: Threads + Wait + Sync, G: Gate>(
     if session.has_no_kit() {
         return Ok((RunAnswer::NoKit, Vec::new(alloc)));
     }
+    let (ran, pool) = run_taken(rt, alloc, session, workers, gate);
+    match ran {
+        Ok(ended) => Ok(give_back(alloc, session, pool, ended)),
+        Err(mismatch) => {
+            session.put_back(pool);
+            Err(mismatch)
+        }
+    }
+}
+
+/// Runs a session's program as `run_threads` does, and hands the run's new records out with its answer and its history: the session keeps
+/// those that it has. So who waits for the answer needn't wait until the new ones are put in. They may be, by `Session::settle`, until
+/// the program or the tables are edited.
+pub fn run_unsettled<V: View + Send, R: Threads + Wait + Sync, G: Gate>(
+    rt: &R,
+    alloc: Global,
+    session: &mut Session<V>,
+    workers: usize,
+    gate: &G,
+) -> Result<Ended, Mismatch>
+    requires workers { (0 < workers) × (workers ≤ 16) }
+    ensures elision { IfOk result (λ e. IsFromScratch (standing_of session.old) e.answer) }
+    ensures come { IfOk result (λ e. HasCome e.answer) }
+    // What was counted and recorded, and that it may be put among the session's records.
+    ensures recorded { IfOk result (λ e. HasRecordedBy session.old.checked session.old.tables session.old.records e.answer e.tally.made) }
+    ensures news { IfOk result (λ e. AreNewFor session.new.checked session.new.tables e.tally.made) }
+    ensures no_kit { IfOk result (λ e. e.answer ≡ RunAnswer.NoKit ↔ session.old.kits.kits ≡ []) }
+    ensures history { IfOk result (λ e. HasHistory e.answer (history e.steps.items)) }
+    ensures mismatch { IfErr result (λ m. ¬ (m.refusal ≡ error.NoMemory)) }
+    ensures refused { IfErr result (λ m. WasRefused m.refusal) }
+    ensures near { IfErr result (λ m. ¬ (m.refusal ≡ error.NotNeighbour)) }
+    ensures others { session.new ≡ record session.old { kits = session.new.kits } }
+    ensures home { IfOk result (λ e.
+        HasEnded e.answer → length session.new.kits.kits ≡ length session.old.kits.kits) }
+    ensures total { session.new.kits.total ≡ session.old.kits.total }
+{
+    if session.has_no_kit() {
+        return Ok(Ended {
+            answer: RunAnswer::NoKit,
+            tally: Tally::new(alloc),
+            steps: Vec::new(alloc),
+        });
+    }
+    // The session's records are sound: so the run's new ones may be put among them.
+    session.upheld();
+    let (ran, pool) = run_taken(rt, alloc, session, workers, gate);
+    session.put_back(pool);
+    match ran {
+        Ok(ended) => Ok(ended),
+        Err(mismatch) => Err(mismatch),
+    }
+}
+
+/// How a run of a session has ended that has a kit free, and its pool, which isn't put back.
+fn run_taken<V: View + Send, R: Threads + Wait + Sync, G: Gate>(
+    rt: &R,
+    alloc: Global,
+    session: &mut Session<V>,
+    workers: usize,
+    gate: &G,
+) -> (Result<Ended, Mismatch>, Pool<Kit<V>>)
+    requires workers { (0 < workers) × (workers ≤ 16) }
+    ensures end { IfOk result.0 (IsEndFor session.new) }
+    ensures mismatch { IfErr result.0 (λ m. ¬ (m.refusal ≡ error.NoMemory)) }
+    ensures refused { IfErr result.0 (λ m. WasRefused m.refusal) }
+    ensures near { IfErr result.0 (λ m. ¬ (m.refusal ≡ error.NotNeighbour)) }
+    ensures taken { session.new ≡ record session.old { kits = stock_of [] } }
+    ensures kinds { All (λ k. k ≡ session.new.checked.kinds) result.1.kits }
+    ensures home { IfOk result.0 (λ e. HasEnded e.answer → length result.1.kits ≡ length session.old.kits.kits) }
+    ensures total { result.1.total ≡ session.old.kits.total }
+{
     // What the type keeps of its records, tables and kits: so a run may begin with them.
     session.upheld();
     let pool = session.take_pool(alloc);
@@ -111,13 +184,7 @@ pub fn run_threads<V: View + Send, R: Threads + Wait + Sync, G: Gate>(
     );
     let Stock { pool, lists } = stock;
     session.keep_lists(lists);
-    match ran {
-        Ok(ended) => Ok(give_back(alloc, session, pool, ended)),
-        Err(mismatch) => {
-            session.put_back(pool);
-            Err(mismatch)
-        }
-    }
+    (ran, pool)
 }
 
 /// Gives a session its pool back, and the new records of a run that has ended so; where memory is refused for these, the records
@@ -280,7 +347,7 @@ where
         }
         None => unreachable!(),
     }
-    finish(floor, left)
+    floor.end(left)
 }
 
 /// The first worker's life on that seat. The others are started where the run isn't over after its first goes.
@@ -399,32 +466,4 @@ where
         let _ = work(rt, floor, seat, gate);
     };
     let _ = thread::map_vec(rt, seats, &life);
-}
-
-/// How a run has ended that the workers on these seats have left, and the pool.
-fn finish<J: Run + Ledger + Stocked + Send, D: Deques, V: View>(
-    floor: Floor<'_, J, D, V>,
-    seats: Vec<Seat<J, D>>,
-) -> (Result<Ended, Mismatch>, Pool<Kit<V>>)
-    requires some { 0 < length seats.items }
-    requires left { All (λ seat. 0 < seat.left) seats.items }
-    ensures end { IfOk result.0 (IsEnd J.setting) }
-    ensures refusal { IfErr result.0 (λ m. is_refusal m.refusal ≡ true) }
-    ensures refused { IfErr result.0 (λ m. WasRefused m.refusal) }
-    ensures near { IfErr result.0 (λ m. is_apart m.refusal ≡ false) }
-    ensures home { IfOk result.0 (λ e. HasEnded e.answer → length result.1.kits ≡ floor.entry.kits) }
-    ensures kinds { All (λ k. k ≡ J.setting.kinds) result.1.kits }
-    ensures total { result.1.total ≡ J.total }
-{
-    match floor.finish(seats) {
-        Ok((answer, pool, made, steps)) => {
-            let ended = Ended {
-                answer,
-                made,
-                steps,
-            };
-            (Ok(ended), pool)
-        }
-        Err((mismatch, pool)) => (Err(mismatch), pool),
-    }
 }

@@ -1,6 +1,6 @@
 //! What is done again in a second run.
 
-use super::beginning::answer;
+use super::beginning::{answer, unsettled};
 use super::comparing::{same_count, same_text};
 use super::counting::Updates;
 use reuse_planner::Session;
@@ -69,4 +69,30 @@ fn less_is_done_by<R: Abort + Threads + Wait + Sync>(rt: &R, alloc: Global, work
 fn reruns_are_quiet(rt: HostRuntime) {
     less_is_done_by(&rt, rt.alloc(), 2);
     less_is_done_by(&rt, rt.alloc(), 4);
+}
+
+/// Records that are handed out answer nothing until they are put in, and then all.
+fn is_kept_later<V: View + Send, R: Abort + Threads + Wait + Sync>(
+    rt: &R,
+    alloc: Global,
+    session: &mut Session<V>,
+) {
+    let tally = unsettled(rt, alloc, session, FIRST_LINES);
+    assert!(rt; session.records().is_empty());
+    session.upheld();
+    let pool = session.take_pool(alloc);
+    assert!(rt; session.settle(pool, tally.into_records()).is_ok());
+    updates(rt, alloc, session, 2, FIRST_LINES, 0);
+}
+
+#[test]
+fn records_are_put_in_later(rt: HostRuntime) {
+    let done = in_session(
+        rt.alloc(),
+        LINES,
+        SALES,
+        64,
+        |session| is_kept_later(&rt, rt.alloc(), session),
+    );
+    done.expect(&rt, "a session");
 }

@@ -9,13 +9,13 @@ use Rattle.script_session.proofs.Errors.{handed_on, written_not_read}
 use Rattle.program_endings.proofs.Written.{Appends-more, Appends-nothing, beginning_of, beginning_after}
 use Rattle.script_session.proofs.session.answer_script.Goals as goal
 
-pub returns-in_err-runs-clause-beginning : goal.returns-in_err-runs-clause-beginning
-returns-in_err-runs-clause-beginning g c =
+pub returns-in_err-written-clause-beginning : goal.returns-in_err-written-clause-beginning
+returns-in_err-written-clause-beginning g c =
     let w = c.loop-command.invariant.written in
     let all = ap (map said) c.deref-command-items.ensures.value ∙ c.in-Ok.ensures in
     let next = one_more_answer (standing_of c.loop-command.session) _ c.loop-command.runs _ c.loop-command.command-index c.deref-command-items.result.now c.command-item.result w.0 _ c.loop-command-test.true c.command-item.is refl refl w.2 in
     subst (λ cs. HasBeginning (g.W.Write.contents c.args.writer.now) (g.W.Write.contents c.answer_written.new.writer) (answers_from (standing_of c.args.session.now) 0 cs)) all
-    (beginning_after _ _ _ w.0 _ _ _ w.1 c.in_err-runs.ensures.beginning next)
+    (beginning_after _ _ _ w.0 _ _ _ w.1 c.in_err-written.ensures.beginning next)
 
 pub loop-command-init : goal.loop-command-init
 loop-command-init g c = record { free = refl; few = omega arith; unmarked = refl; noted = refl; written = ([], Appends-nothing _, refl) }
@@ -23,15 +23,25 @@ loop-command-init g c = record { free = refl; few = omega arith; unmarked = refl
 pub loop-command-preserved : goal.loop-command-preserved
 loop-command-preserved g c =
     let w = c.loop-command.invariant.written in
-    let next = one_more_answer (standing_of c.loop-command.session) (standing_of c.gather_behind.new.session) c.loop-command.runs c.in_ok-runs.runs c.loop-command.command-index c.deref-command-items.result.now c.command-item.result w.0 _ c.loop-command-test.true c.command-item.is
-    (c.gather_behind.ensures.same ∙ c.in_ok-runs.ensures.after) c.in_ok-runs.ensures.runs w.2 in
+    let next = one_more_answer (standing_of c.loop-command.session) (standing_of c.keep_behind.new.session) c.loop-command.runs c.in_ok-written.written.0 c.loop-command.command-index c.deref-command-items.result.now c.command-item.result w.0 _ c.loop-command-test.true c.command-item.is
+    (c.keep_behind.ensures.same ∙ c.in_ok-written.ensures.after) c.in_ok-written.ensures.runs w.2 in
     record {
-      free = c.gather_behind.ensures.free ∙ c.in_ok-runs.ensures.free ∙ c.loop-command.invariant.free;
-      few = runs_after-le _ _ _ _ c.in_ok-runs.ensures.runs c.loop-command.invariant.few;
-      unmarked = c.in_ok-runs.ensures.unmarked (λ e. cc) ∙ c.loop-command.invariant.unmarked;
-      noted = c.in_ok-runs.ensures.notes_stay (λ e. cc) ∙ c.loop-command.invariant.noted;
-      written = (_, Appends-more _ _ _ w.0 _ w.1 c.in_ok-runs.ensures.written, rw append_assoc next);
+      free = c.keep_behind.ensures.free ∙ c.in_ok-written.ensures.free ∙ c.loop-command.invariant.free;
+      few = runs_after-le _ _ _ _ c.in_ok-written.ensures.runs c.loop-command.invariant.few;
+      unmarked = c.in_ok-written.ensures.unmarked (λ e. cc) ∙ c.loop-command.invariant.unmarked;
+      noted = c.in_ok-written.ensures.notes_stay (λ e. cc) ∙ c.loop-command.invariant.noted;
+      written = (_, Appends-more _ _ _ w.0 _ w.1 c.in_ok-written.ensures.written, rw append_assoc next);
     }
+
+-- where memory is refused for its records, the run's answer is written all the same
+pub returns-then-is_err-clause-beginning : goal.returns-then-is_err-clause-beginning
+returns-then-is_err-clause-beginning g c =
+    let w = c.loop-command.invariant.written in
+    let all = ap (map said) c.deref-command-items.ensures.value ∙ c.in-Ok.ensures in
+    let next = one_more_answer (standing_of c.loop-command.session) (standing_of c.keep_behind.new.session) c.loop-command.runs c.in_ok-written.written.0 c.loop-command.command-index c.deref-command-items.result.now c.command-item.result w.0 _ c.loop-command-test.true c.command-item.is
+    (c.keep_behind.ensures.same ∙ c.in_ok-written.ensures.after) c.in_ok-written.ensures.runs w.2 in
+    subst (λ cs. HasBeginning (g.W.Write.contents c.args.writer.now) (g.W.Write.contents c.answer_written.new.writer) (answers_from (standing_of c.args.session.now) 0 cs)) all
+    (beginning_of _ _ _ _ _ (Appends-more _ _ _ w.0 _ w.1 c.in_ok-written.ensures.written) (rw append_assoc next))
 
 pub returns-clause-beginning : goal.returns-clause-beginning
 returns-clause-beginning g c =
@@ -40,14 +50,14 @@ returns-clause-beginning g c =
     subst (λ cs. HasBeginning (g.W.Write.contents c.args.writer.now) (g.W.Write.contents c.loop-command.writer) (answers_from (standing_of c.args.session.now) 0 cs)) all
     (beginning_of _ _ w.0 _ _ w.1 w.2)
 
-pub returns-in_err-runs-clause-read : goal.returns-in_err-runs-clause-read
-returns-in_err-runs-clause-read g c =
+pub returns-in_err-written-clause-read : goal.returns-in_err-written-clause-read
+returns-in_err-written-clause-read g c =
     let p = err_from_is_err_and c.from_residual.result c.from_residual.ensures.1 in
-    handed_on c.from_residual.result c.in_err-runs.field-0.0 p.0 p.1 p.2 (written_not_read c.in_err-runs.field-0.0 c.in_err-runs.ensures.refused)
+    handed_on c.from_residual.result c.in_err-written.field-0.0 p.0 p.1 p.2 (written_not_read c.in_err-written.field-0.0 c.in_err-written.ensures.refused)
 
-pub returns-in_err-runs-clause-notes_stay : goal.returns-in_err-runs-clause-notes_stay
-returns-in_err-runs-clause-notes_stay g c h =
+pub returns-in_err-written-clause-notes_stay : goal.returns-in_err-written-clause-notes_stay
+returns-in_err-written-clause-notes_stay g c h =
     let p = err_from_is_err_and c.from_residual.result c.from_residual.ensures.1 in
     let is = p.1 in
     let same = p.2 in
-    c.in_err-runs.ensures.notes_stay (λ e. h cc) ∙ c.loop-command.invariant.noted
+    c.in_err-written.ensures.notes_stay (λ e. h cc) ∙ c.loop-command.invariant.noted

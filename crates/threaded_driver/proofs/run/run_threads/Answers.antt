@@ -1,9 +1,9 @@
-use Rattle.std.proofs.Common.{[], ◌∙◌}
+use Rattle.std.proofs.Common.{[]}
 use Rattle.kept_session.specs.Sessions.{stock_of}
 use Rattle.threaded_driver.proofs.Settling.{leaves_whatever_kits}
 use Rattle.threaded_driver.proofs.run.run_threads.Goals as goal
 
 pub returns-in-Ok-clause-recorded : goal.returns-in-Ok-clause-recorded
 returns-in-Ok-clause-recorded g c =
-    leaves_whatever_kits c.args.session.now c.keep_lists.new.self (stock_of []) c.give_back.result.0 c.give_back.new.session.records
-    (c.keep_lists.ensures.same ∙ c.take_lists-lists.ensures.same ∙ c.take_pool-pool.ensures.left) c.give_back.ensures.recorded
+    leaves_whatever_kits c.args.session.now c.run_taken.new.session (stock_of []) c.give_back.result.0 c.give_back.new.session.records
+    c.run_taken.ensures.taken c.give_back.ensures.recorded

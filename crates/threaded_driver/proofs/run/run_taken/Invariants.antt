@@ -1,6 +1,6 @@
 use Rattle.std.proofs.Common.{[], length}
 use Rattle.positions.specs.Setting.{setting_with}
-use Rattle.threaded_driver.proofs.run.run_threads.Given as goal
+use Rattle.threaded_driver.proofs.run.run_taken.Given as goal
 
 abbrev pub ghosts-run_borrowed-J-Run : goal.ghosts-run_borrowed-J-Run
 ghosts-run_borrowed-J-Run g a = record { setting = setting_with a.borrowed.program.now a.borrowed.tables.now.tables [] a.borrowed.records.now }
