@@ -14,7 +14,9 @@ use positions::phase::Phase;
 use std::alloc::{AllocError, Global};
 use strand_moves::bare::bare;
 use strand_moves::moves;
-use strand_moves::moves::{call_child, go_on_with, put_back, take_out, updates_next};
+use strand_moves::moves::{
+    call_child, expect_records, go_on_with, put_back, take_out, updates_next,
+};
 use strand_moves::task::Task;
 use view_pool::{Kit, View};
 
@@ -96,6 +98,14 @@ impl<V: View> Strand<V> {
             Ok(()) => Ok(strand),
             Err(refused) => Err(refused),
         }
+    }
+
+    /// Records may come of each iteration of a loop's second half with which a stolen strand begins: room for all of them is made as they
+    /// come. It takes no memory.
+    pub fn expect_records(&mut self, program: &Checked)
+        ensures same { self.new ≡ self.old }
+    {
+        expect_records(&mut self.machine, program);
     }
 
     /// At a spawn: takes out the parent and what waits below it, and goes on with the child alone, which is to be entered. It

@@ -86,6 +86,41 @@ impl<J: Run, V: View> RightStrand<J, V> {
         ensures task_back { IfErr result (λ e. e.1 ≡ task) }
         ensures kit_back { IfErr result (λ e. e.2 ≡ kit) }
     {
+        match RightStrand::begun(scene, task, kit, spare) {
+            Ok(strand) => {
+                let mut strand = strand;
+                strand.expect_records(scene);
+                Ok(strand)
+            }
+            Err(refused) => Err(refused),
+        }
+    }
+
+    /// Records may come of each iteration of a loop's second half with which a stolen strand begins, where they are the run's first: room
+    /// for all of them is made as they come. It takes no memory.
+    fn expect_records(&mut self, scene: &Scene<'_, J>)
+        ensures same { self.new ≡ self.old }
+    {
+        if !scene.records.is_empty() {
+            return;
+        }
+        self.body.strand.expect_records(scene.program);
+    }
+
+    /// The strand of a stolen continuation, where another one has lain.
+    #[inline(always)]
+    fn begun(
+        scene: &Scene<'_, J>,
+        task: RightTask<J>,
+        kit: Kit<V>,
+        spare: Spare<V>,
+    ) -> Result<RightStrand<J, V>, (AllocError, RightTask<J>, Kit<V>)>
+        requires kit { kit ≡ J.setting.kinds }
+        ensures stolen { IfOk result (λ s. s.strand ≡ stolen J.setting.codes kit task.task) }
+        ensures going { IfOk result (λ s. s.failed ≡ false) }
+        ensures task_back { IfErr result (λ e. e.1 ≡ task) }
+        ensures kit_back { IfErr result (λ e. e.2 ≡ kit) }
+    {
         let RightTask { task, since, of: _ } = task;
         let start = behind(task.place());
         let Spare { mut body } = spare;

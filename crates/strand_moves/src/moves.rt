@@ -5,6 +5,7 @@ ghost use Rattle.positions.specs.Moves.{first_strand, stolen, stolen_with, inlin
 ghost use Rattle.strand_moves.specs.Bare.{IsBare};
 
 use crate::task::Task;
+use activations::code::loop_code;
 use activations::spares::Spares;
 use evaluation::slot::Slot;
 use layers::layer::Layer;
@@ -13,6 +14,7 @@ use layers::tally::Tally;
 use linked_program::checked::Checked;
 use positions::phase::Phase;
 use positions::start::Start;
+use positions::work::Work;
 use small_steps::machine::Machine;
 use std::alloc::{AllocError, Global};
 use std::mem;
@@ -113,6 +115,32 @@ fn begin_behind<V: View>(machine: &mut Machine<V>, task: Task, layer: Layer<V>)
     machine.top = top;
     machine.below = below;
     machine.phase = Phase::Running;
+}
+
+/// Records may come of each iteration of a loop's second half with which a stolen strand begins: room for all of them is made as they come. It
+/// takes no memory.
+pub fn expect_records<V: View>(machine: &mut Machine<V>, program: &Checked)
+    ensures same { machine.new ≡ machine.old }
+{
+    match records_ahead(machine, program) {
+        Some(records) => machine.tally.expect(records),
+        None => {}
+    }
+}
+
+/// How many iterations there are, where the topmost instance is the second half of a loop over a memo procedure.
+fn records_ahead<V: View>(machine: &Machine<V>, program: &Checked) -> Option<u32> {
+    match machine.top.work() {
+        Work::Second(site, _, share) => {
+            let code = loop_code(program, machine.top.procedure(), site);
+            if program.is_memo(code.callee) {
+                Some(share.count)
+            } else {
+                None
+            }
+        }
+        _ => None,
+    }
 }
 
 /// At a spawn: takes out the parent and what waits below it, and leaves the child alone, which is to be entered.

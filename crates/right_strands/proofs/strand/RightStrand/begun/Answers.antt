@@ -1,7 +1,7 @@
 use Rattle.std.proofs.Common.{refl, false, ◌∙◌}
 use Rattle.right_strands.proofs.Boxes.{held_there}
 use Rattle.right_strands.proofs.Moves.{stolen_kept}
-use Rattle.right_strands.proofs.strand.RightStrand.stolen.Goals as goal
+use Rattle.right_strands.proofs.strand.RightStrand.begun.Goals as goal
 
 pub invariant_of-result : goal.invariant_of-result
 invariant_of-result g c =
