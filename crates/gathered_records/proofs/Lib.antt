@@ -1,2 +1,3 @@
 pub mod Summed
 pub mod Rows
+pub mod FlatSums

@@ -2,6 +2,7 @@
 #![tactic(auto)]
 
 mod bounds;
+mod flat;
 pub mod gathering;
 mod nesting;
 mod row;

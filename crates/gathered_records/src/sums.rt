@@ -16,6 +16,7 @@ ghost use Rattle.rerun_records.specs.Sums.{IsSumFor};
 ghost use Rattle.gathered_records.specs.Summing.{nothing_summed, kept_reads, added, summed, worth_in, same_entry, put_entry, put_entries};
 ghost use Rattle.gathered_records.specs.Summing.{numbered_from, at_places, HasSummed};
 
+use crate::flat::flat_sum_at;
 use instance_records::arguments::Arguments;
 use instance_records::entries::Entries;
 use instance_records::gift::{Gift, gifts};
@@ -149,8 +150,30 @@ fn add_reads(keeps: bool, reads: &mut Several, more: &Readings) -> Result<(), Al
 }
 
 /// The record that has what those at these places have together, and what they have read where that is kept; refused as `Sum::add` is.
-#[inline(never)]
 pub(crate) fn sum_at(
+    alloc: Global,
+    kinds: &[Kind],
+    keeps: bool,
+    records: &[Record],
+    places: &[u32],
+) -> Result<Record, AllocError>
+    requires monoids { All IsMonoid kinds.now }
+    requires values { HaveValues kinds.now records.now }
+    requires some { 0 < length (at_places records.now places.now) }
+    ensures sum { IfOk result (λ s. IsSumFor keeps kinds.now (at_places records.now places.now) s) }
+{
+    if keeps {
+        return sum_each(alloc, kinds, keeps, records, places);
+    }
+    match flat_sum_at(alloc, kinds, records, places) {
+        Some(sum) => Ok(sum),
+        None => sum_each(alloc, kinds, keeps, records, places),
+    }
+}
+
+// The same, whatever the records have.
+#[inline(never)]
+fn sum_each(
     alloc: Global,
     kinds: &[Kind],
     keeps: bool,
@@ -202,9 +225,9 @@ pub(crate) fn finish_at(
     }
 }
 
-// The record at the last of these places.
+/// The record at the last of these places.
 #[tactic(auto, using(crate::proofs::Rows::last_of))]
-fn last_at<'a>(records: &'a [Record], places: &[u32]) -> Option<&'a Record>
+pub(crate) fn last_at<'a>(records: &'a [Record], places: &[u32]) -> Option<&'a Record>
     ensures last { IfSome result (λ last. arguments_of_last [] (at_places records.now places.now) ≡ last.now.arguments) }
 {
     let place = last_place(places)?;
@@ -542,8 +565,8 @@ fn is_entered(entries: &[(usize, u64)], entry: &(usize, u64)) -> bool
     false
 }
 
-// Whether both are of one procedure at one revision.
-fn is_same(entry: &(usize, u64), other: &(usize, u64)) -> bool
+/// Whether both are of one procedure at one revision.
+pub(crate) fn is_same(entry: &(usize, u64), other: &(usize, u64)) -> bool
     ensures same { result ≡ same_entry entry.now other.now }
 {
     entry.0 == other.0 && entry.1 == other.1

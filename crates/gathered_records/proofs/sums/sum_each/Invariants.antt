@@ -1,6 +1,6 @@
 use Rattle.std.proofs.Common.{◌≡◌, take}
 use Rattle.gathered_records.specs.Summing.{at_places, HasSummed}
-use Rattle.gathered_records.proofs.sums.sum_at.Given as goal
+use Rattle.gathered_records.proofs.sums.sum_each.Given as goal
 
 abbrev pub invariant-loop-place : goal.invariant-loop-place
 invariant-loop-place l = record {

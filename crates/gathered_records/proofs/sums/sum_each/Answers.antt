@@ -4,7 +4,7 @@ use Rattle.rerun_records.specs.Sums.{IsSumFor}
 use Rattle.gathered_records.specs.Summing.{PlainSum, at_places, HasSummed}
 use Rattle.gathered_records.proofs.Summed.{nothing_summed_so}
 use Rattle.gathered_records.proofs.Rows.{record_more}
-use Rattle.gathered_records.proofs.sums.sum_at.Goals as goal
+use Rattle.gathered_records.proofs.sums.sum_each.Goals as goal
 
 pub loop-place-init : goal.loop-place-init
 loop-place-init c = record {
