@@ -9,7 +9,7 @@ use crate::bounds::{PARTS, bounds_at, part_above};
 use crate::nesting::may_nest;
 use crate::row::Row;
 use crate::stretch::{Bounds, Stretches};
-use crate::sums::sum_at;
+use crate::sums::{record_at, sum_at};
 use crate::tried::Tried;
 use crate::widening::widen_at;
 use instance_records::record::Record;
@@ -366,6 +366,53 @@ pub(crate) fn find_row(records: &Records, row: &Row) -> Option<u32>
 // The same, where many are looked for.
 #[inline(always)]
 fn find_near(records: &Records, row: &Row) -> Option<u32>
+    ensures there { IfSome result (λ place. IsThere records.now row.now place) }
+{
+    match find_alone(records, row) {
+        Some(place) => Some(place),
+        None => find_any(records, row),
+    }
+}
+
+// The near place, where the record of the row's instance lies there and has one argument, as most have.
+#[inline(always)]
+fn find_alone(records: &Records, row: &Row) -> Option<u32>
+    ensures there { IfSome result (λ place. IsThere records.now row.now place) }
+{
+    match u32::try_from(row.near()) {
+        Ok(place) => match record_at(records.as_slice(), place as usize) {
+            Some(record) => {
+                if !is_of_row(record, row) {
+                    return None;
+                }
+                Some(place)
+            }
+            None => None,
+        },
+        Err(_) => None,
+    }
+}
+
+// Whether a record is that of the row's instance, and has one argument.
+#[inline(always)]
+fn is_of_row(record: &Record, row: &Row) -> bool
+    ensures procedure { result ≡ true → record.now.procedure ≡ row.now.procedure }
+    ensures arguments { result ≡ true → record.now.arguments ≡ row.now.arguments }
+{
+    record.procedure() == row.procedure() && are_one(record.arguments(), row.arguments())
+}
+
+// Whether both are one number, and that is the same.
+#[inline(always)]
+fn are_one(left: &[i64], right: &[i64]) -> bool
+    ensures same { result ≡ true → left.now ≡ right.now }
+{
+    left.len() == 1 && right.len() == 1 && left[0] == right[0]
+}
+
+// The place of the record of the row's instance, whatever arguments it has.
+#[inline(never)]
+fn find_any(records: &Records, row: &Row) -> Option<u32>
     ensures there { IfSome result (λ place. IsThere records.now row.now place) }
 {
     match records.place_near(row.near(), row.procedure(), row.arguments()) {

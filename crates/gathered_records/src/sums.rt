@@ -245,8 +245,9 @@ fn last_place(places: &[u32]) -> Option<usize>
     }
 }
 
-// The record at that place.
-fn record_at(records: &[Record], place: usize) -> Option<&Record>
+/// The record at that place.
+#[inline(always)]
+pub(crate) fn record_at(records: &[Record], place: usize) -> Option<&Record>
     ensures there { IfSome result (λ r. slice_get records.now place ≡ Some r.now) }
 {
     records.get(place)
