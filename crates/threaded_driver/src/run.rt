@@ -18,6 +18,7 @@ ghost use Rattle.threaded_driver.specs.Finds.{is_left, IsAt};
 ghost use Rattle.sync_fold.specs.Refusals.{WasRefused, is_apart};
 ghost use Rattle.worker_seats.specs.Over.{is_refusal};
 ghost use Rattle.strand_list.specs.declared.error.BookError.TheVariants as error;
+ghost use Rattle.std.specs.Thread.{IsSend, IsSync};
 
 use crate::floor::Floor;
 use crate::found::Found;
@@ -380,8 +381,9 @@ where
     }
 }
 
-/// The first worker's life from what it has found on, beside the others. It starts a thread for each half of them itself: a new
-/// thread may take long to begin, and starts others only then.
+/// The first worker's life from what it has found on, beside the others. It starts a thread for each of them itself: a new thread may take
+/// long to begin, and would start others only then. Where none can be made there are fewer of them. It is over when all have left: the
+/// system ends their threads meanwhile.
 fn live_beside<J, D, V, R, G>(
     rt: &R,
     floor: &Floor<'_, J, D, V>,
@@ -401,69 +403,21 @@ where
     requires here { IsAt seat.here found }
     ensures left { 0 < result.left }
 {
-    let mut others = others;
-    match others.split_off(others.len() / 2) {
-        Ok(half) => {
-            let (_, seat) = thread::join(
-                rt,
-                move || start(rt, floor, half, gate),
-                move || -> Seat<J, D>
-                    requires { (is_left found ≡ true → 0 < seat.left) × IsAt seat.here found }
-                    ensures { 0 < result.left }
-                { live_beside_half(rt, floor, number, seat, found, others, gate) },
-            );
-            seat
-        }
-        Err(_) => live_beside_half(rt, floor, number, seat, found, others, gate),
-    }
-}
-
-/// Lives at a seat, and starts the second half of the other workers beside it, if there are any.
-fn live_beside_half<J, D, V, R, G>(
-    rt: &R,
-    floor: &Floor<'_, J, D, V>,
-    number: usize,
-    seat: Seat<J, D>,
-    found: Found<J, V>,
-    others: Vec<Seat<J, D>>,
-    gate: &G,
-) -> Seat<J, D>
-where
-    J: Run + Ledger + Stocked + Send + Sync,
-    D: Deques + Send + Sync,
-    V: View + Send,
-    R: Threads + Wait + Sync,
-    G: Gate,
-    requires left { is_left found ≡ true → 0 < seat.left }
-    requires here { IsAt seat.here found }
-    ensures left { 0 < result.left }
-{
-    if others.is_empty() {
-        return live(rt, floor, number, seat, found, gate);
-    }
-    let (_, seat) = thread::join(
+    thread::scope(
+        thread::scope_env(),
         rt,
-        move || start(rt, floor, others, gate),
-        move || -> Seat<J, D>
-            requires { (is_left found ≡ true → 0 < seat.left) × IsAt seat.here found }
+        move |scope| -> Seat<J, D>
+            requires { IsSend J.row × IsSync J.row × IsSend D.row × IsSync D.row × IsSend V.row × IsSync R.row × IsSync G.row
+                × (is_left found ≡ true → 0 < seat.left) × IsAt seat.here found }
             ensures { 0 < result.left }
-        { live(rt, floor, number, seat, found, gate) },
-    );
-    seat
-}
-
-/// A thread for each of the other seats, until all have left. Where memory is refused there are fewer of them.
-fn start<J, D, V, R, G>(rt: &R, floor: &Floor<'_, J, D, V>, seats: Vec<Seat<J, D>>, gate: &G)
-where
-    J: Run + Ledger + Stocked + Send + Sync,
-    D: Deques + Send + Sync,
-    V: View + Send,
-    R: Threads + Wait + Sync,
-    G: Gate,
-{
-    // A seat ends where its worker has left it: a thread that handed it back would have to send it.
-    let life = |seat: Seat<J, D>| {
-        let _ = work(rt, floor, seat, gate);
-    };
-    let _ = thread::map_vec(rt, seats, &life);
+        {
+            for other in others {
+                // A seat ends where its worker has left it: a thread that handed it back would have to send it.
+                let _ = scope.spawn(move || {
+                    let _ = work(rt, floor, other, gate);
+                });
+            }
+            live(rt, floor, number, seat, found, gate)
+        },
+    )
 }
