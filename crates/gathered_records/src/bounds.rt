@@ -8,8 +8,9 @@ use rerun_records::blocks::Width;
 use rerun_records::records::Records;
 use std::alloc::Global;
 
-/// A fine block has so many records at most: halves of numbers have more than half of it, which keeps what blocks take of memory low.
-const FINE: u64 = 20;
+/// A fine block has so many records at most: halves of numbers have more than half of it, which keeps what blocks take of memory low. No sum has
+/// more than 64 numbers of a list, so with more than 64 records there would be none of those that append to one.
+const FINE: u64 = 40;
 
 /// A middle one, which is made of fine ones.
 const MIDDLE: u64 = 128;

@@ -21,7 +21,7 @@ use rerun_records::records::Records;
 use std::alloc::{AllocError, Global};
 
 /// There is room for so many places of a fine block at first.
-const ROOM: usize = 20;
+const ROOM: usize = 40;
 
 /// Vast blocks are made of so many records at least: an edit has one made again, which takes more than it saves among fewer.
 const MANY: usize = 250_000;
