@@ -400,13 +400,17 @@ impl<J: Run + Ledger + Stocked + Send, D: Deques, V: View> Floor<'_, J, D, V> {
     }
 
     /// The newest continuation in the worker's deque, which waits for the child at its spot; none once all that was pushed was
-    /// taken. The lock is taken only where a pop has missed, to count.
+    /// taken. The lock is taken only where a pop has missed, to count; not where nothing was pushed since the deque was found empty, as
+    /// behind a fold.
     #[inline(always)]
     fn take<R: Wait>(&self, rt: &R, seat: &mut Seat<J, D>) -> Option<Box<RightTask<J>>>
         ensures waits { IfSome result (λ t. seat.old.here ≡ Some (child_spot t.value)) }
         ensures popped { IfSome result (λ t. seat.new.here ≡ Some (own_spot t.value)) }
         ensures drained { IfNone result (seat.new.here ≡ None) }
     {
+        if !seat.may_be_bound() {
+            return None;
+        }
         for _ in rt.forever() {
             if let Some(task) = seat.pop() {
                 return Some(task);
@@ -418,14 +422,10 @@ impl<J: Run + Ledger + Stocked + Send, D: Deques, V: View> Floor<'_, J, D, V> {
         unreachable!()
     }
 
-    /// Pops what is left in the worker's deque: what a strand with a fault has left there is behind the fault, and nobody needs it. Where it
-    /// was found empty just now the lock isn't taken again.
+    /// Pops what is left in the worker's deque: what a strand with a fault has left there is behind the fault, and nobody needs it.
     fn drain<R: Wait>(&self, rt: &R, seat: &mut Seat<J, D>)
         ensures drained { seat.new.here ≡ None }
     {
-        if !seat.may_be_bound() {
-            return;
-        }
         for _ in rt.forever() {
             if self.take(rt, seat).is_none() {
                 return;
