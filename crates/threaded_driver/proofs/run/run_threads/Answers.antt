@@ -5,5 +5,5 @@ use Rattle.threaded_driver.proofs.run.run_threads.Goals as goal
 
 pub returns-in-Ok-clause-recorded : goal.returns-in-Ok-clause-recorded
 returns-in-Ok-clause-recorded g c =
-    leaves_whatever_kits c.args.session.now c.run_taken.new.session (stock_of []) c.give_back.result.0 c.give_back.new.session.records
-    c.run_taken.ensures.taken c.give_back.ensures.recorded
+    leaves_whatever_kits c.args.session.now c.run_taken-ran.new.session (stock_of []) c.give_back.result.0 c.give_back.new.session.records
+    c.run_taken-ran.ensures.taken c.give_back.ensures.recorded
