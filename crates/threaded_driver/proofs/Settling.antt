@@ -1,5 +1,5 @@
 -- What a run by threads leaves of a session.
-use Rattle.std.proofs.Common.{◌≡◌, ◌↔◌, ◌<◌, List, [], length, map, sym, ap, refl, subst, ◌∙◌, arith}
+use Rattle.std.proofs.Common.{◌≡◌, ◌↔◌, ◌<◌, List, [], Result, Ok, Err, IfOk, length, map, sym, ap, refl, subst, ◌∙◌, arith}
 use Rattle.monoid_laws.specs.declared.Kind.{Kind}
 use Rattle.view_pool.specs.Stock.{Stock}
 use Rattle.meaning.specs.Elision as elision
@@ -88,3 +88,8 @@ news_of_end s t kits e sound end is =
 -- no run that had a kit is refused one
 pub has_kit : (given : RunAnswer) (kits : List (List Kind)) → IsGiven given → 0 < length kits → (given ≡ answer.NoKit) ↔ (kits ≡ [])
 has_kit given kits h some = ((λ is. absurd (subst IsGiven is h)), (λ none. let few : length kits ≡ 0 = ap length none in absurd (omega (arith, few, some))))
+
+-- what holds of each such end holds where there is one
+pub if_ended : {E : Type 0} (r : Result Ended E) (t : PlainSession) (Q : Ended → Type 0) → ((e : Ended) → IsEndFor t e → Q e) → IfOk r (IsEndFor t) → IfOk r Q
+if_ended (Ok e) t Q f h = f e h
+if_ended (Err m) t Q f h = tt

@@ -141,10 +141,7 @@ pub fn run_unsettled<V: View + Send, R: Threads + Wait + Sync, G: Gate>(
     session.upheld();
     let (ran, pool) = run_taken(rt, alloc, session, workers, gate);
     session.put_back(pool);
-    match ran {
-        Ok(ended) => Ok(ended),
-        Err(mismatch) => Err(mismatch),
-    }
+    ran
 }
 
 /// How a run of a session has ended that has a kit free, and its pool, which isn't put back.

@@ -1,28 +1,48 @@
-use Rattle.std.proofs.Common.{[], ap, ◌∙◌}
-use Rattle.kept_session.specs.Sessions.{PlainSession, stock_of}
-use Rattle.threaded_driver.proofs.Settling.{came_of, end_whatever_kits, has_kit, news_of_end, recorded_of_end, scratch_of_end}
+use Rattle.std.proofs.Common.{◌≡◌, ◌↔◌, [], ap, ◌∙◌}
+use Rattle.positions.specs.declared.answer.RunAnswer.TheVariants as answer
+use Rattle.numbered_runs.specs.Named.{history}
+use Rattle.numbered_runs.specs.Come.{HasCome}
+use Rattle.numbered_runs.specs.Recorded.{HasRecordedBy}
+use Rattle.kept_session.specs.Sessions.{AreNewFor, PlainSession, standing_of, stock_of}
+use Rattle.session_runs.specs.Runs.{IsFromScratch}
+use Rattle.worker_seats.specs.Histories.{HasHistory}
+use Rattle.worker_seats.specs.declared.ended.Ended.{Ended}
+use Rattle.threaded_driver.proofs.Settling.{came_of, end_whatever_kits, has_kit, if_ended, news_of_end, recorded_of_end, scratch_of_end}
 use Rattle.threaded_driver.proofs.run.run_unsettled.Goals as goal
 
-pub returns-in-Ok-clause-elision : goal.returns-in-Ok-clause-elision
-returns-in-Ok-clause-elision g c =
-    scratch_of_end c.args.session.now c.in-Ok.ended (end_whatever_kits c.args.session.now c.run_taken-ran.new.session (stock_of []) c.in-Ok.ended c.run_taken-ran.ensures.taken c.in-Ok.ensures.end)
+pub returns-clause-elision : goal.returns-clause-elision
+returns-clause-elision g c =
+    let s = c.args.session.now in
+    let t = c.run_taken-ran.new.session in
+    if_ended c.run_taken-ran.result.0 t (λ (e : Ended). IsFromScratch (standing_of s) e.answer)
+    (λ e end. scratch_of_end s e (end_whatever_kits s t (stock_of []) e c.run_taken-ran.ensures.taken end)) c.run_taken-ran.ensures.end
 
-pub returns-in-Ok-clause-come : goal.returns-in-Ok-clause-come
-returns-in-Ok-clause-come g c = came_of c.in-Ok.ended.answer c.in-Ok.ensures.end.given
+pub returns-clause-come : goal.returns-clause-come
+returns-clause-come g c =
+    if_ended c.run_taken-ran.result.0 c.run_taken-ran.new.session (λ (e : Ended). HasCome e.answer) (λ e end. came_of e.answer end.given) c.run_taken-ran.ensures.end
 
-pub returns-in-Ok-clause-recorded : goal.returns-in-Ok-clause-recorded
-returns-in-Ok-clause-recorded g c =
-    recorded_of_end c.args.session.now c.in-Ok.ended (end_whatever_kits c.args.session.now c.run_taken-ran.new.session (stock_of []) c.in-Ok.ended c.run_taken-ran.ensures.taken c.in-Ok.ensures.end)
+pub returns-clause-recorded : goal.returns-clause-recorded
+returns-clause-recorded g c =
+    let s = c.args.session.now in
+    let t = c.run_taken-ran.new.session in
+    if_ended c.run_taken-ran.result.0 t (λ (e : Ended). HasRecordedBy s.checked s.tables s.records e.answer e.tally.made)
+    (λ e end. recorded_of_end s e (end_whatever_kits s t (stock_of []) e c.run_taken-ran.ensures.taken end)) c.run_taken-ran.ensures.end
 
-pub returns-in-Ok-clause-news : goal.returns-in-Ok-clause-news
-returns-in-Ok-clause-news g c =
+pub returns-clause-news : goal.returns-clause-news
+returns-clause-news g c =
+    let s = c.args.session.now in
+    let t = c.run_taken-ran.new.session in
     let pool = c.run_taken-ran.result.1 in
     let put = c.put_back.ensures.put ∙ ap (λ (x : PlainSession). record x { kits = pool }) c.run_taken-ran.ensures.taken in
-    news_of_end c.args.session.now c.put_back.new.self pool c.in-Ok.ended c.upheld.ensures.sound
-    (end_whatever_kits c.args.session.now c.run_taken-ran.new.session (stock_of []) c.in-Ok.ended c.run_taken-ran.ensures.taken c.in-Ok.ensures.end) put
+    if_ended c.run_taken-ran.result.0 t (λ (e : Ended). AreNewFor c.put_back.new.self.checked c.put_back.new.self.tables e.tally.made)
+    (λ e end. news_of_end s c.put_back.new.self pool e c.upheld.ensures.sound (end_whatever_kits s t (stock_of []) e c.run_taken-ran.ensures.taken end) put) c.run_taken-ran.ensures.end
 
-pub returns-in-Ok-clause-no_kit : goal.returns-in-Ok-clause-no_kit
-returns-in-Ok-clause-no_kit g c = has_kit c.in-Ok.ended.answer c.args.session.now.kits.kits c.in-Ok.ensures.end.given (c.has_no_kit.ensures.some c.if-has_no_kit.false)
+pub returns-clause-no_kit : goal.returns-clause-no_kit
+returns-clause-no_kit g c =
+    let s = c.args.session.now in
+    if_ended c.run_taken-ran.result.0 c.run_taken-ran.new.session (λ (e : Ended). (e.answer ≡ answer.NoKit) ↔ (s.kits.kits ≡ []))
+    (λ e end. has_kit e.answer s.kits.kits end.given (c.has_no_kit.ensures.some c.if-has_no_kit.false)) c.run_taken-ran.ensures.end
 
-pub returns-in-Ok-clause-history : goal.returns-in-Ok-clause-history
-returns-in-Ok-clause-history g c = c.in-Ok.ensures.end.history_of
+pub returns-clause-history : goal.returns-clause-history
+returns-clause-history g c =
+    if_ended c.run_taken-ran.result.0 c.run_taken-ran.new.session (λ (e : Ended). HasHistory e.answer (history e.steps.items)) (λ e end. end.history_of) c.run_taken-ran.ensures.end
