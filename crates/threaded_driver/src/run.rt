@@ -131,17 +131,25 @@ pub fn run_unsettled<V: View + Send, R: Threads + Wait + Sync, G: Gate>(
     ensures total { session.new.kits.total ≡ session.old.kits.total }
 {
     if session.has_no_kit() {
-        return Ok(Ended {
-            answer: RunAnswer::NoKit,
-            tally: Tally::new(alloc),
-            steps: Vec::new(alloc),
-        });
+        return Ok(without_kit(alloc));
     }
     // The session's records are sound: so the run's new ones may be put among them.
     session.upheld();
     let (ran, pool) = run_taken(rt, alloc, session, workers, gate);
     session.put_back(pool);
     ran
+}
+
+/// A run that no kit was free for.
+fn without_kit(alloc: Global) -> Ended
+    ensures answer { result.answer ≡ RunAnswer.NoKit }
+    ensures none { result.tally.made ≡ [] }
+{
+    Ended {
+        answer: RunAnswer::NoKit,
+        tally: Tally::new(alloc),
+        steps: Vec::new(alloc),
+    }
 }
 
 /// How a run of a session has ended that has a kit free, and its pool, which isn't put back.

@@ -1,14 +1,38 @@
-use Rattle.std.proofs.Common.{◌≡◌, ◌↔◌, [], ap, ◌∙◌}
+use Rattle.std.proofs.Common.{◌≡◌, ◌↔◌, [], ap, subst, sym, ◌∙◌}
 use Rattle.positions.specs.declared.answer.RunAnswer.TheVariants as answer
 use Rattle.numbered_runs.specs.Named.{history}
 use Rattle.numbered_runs.specs.Come.{HasCome}
 use Rattle.numbered_runs.specs.Recorded.{HasRecordedBy}
 use Rattle.kept_session.specs.Sessions.{AreNewFor, PlainSession, standing_of, stock_of}
+use Rattle.kept_session.proofs.Keeping.{none_new}
 use Rattle.session_runs.specs.Runs.{IsFromScratch}
 use Rattle.worker_seats.specs.Histories.{HasHistory}
 use Rattle.worker_seats.specs.declared.ended.Ended.{Ended}
 use Rattle.threaded_driver.proofs.Settling.{came_of, end_whatever_kits, has_kit, if_ended, news_of_end, recorded_of_end, scratch_of_end}
 use Rattle.threaded_driver.proofs.run.run_unsettled.Goals as goal
+
+-- without a kit nothing was recorded
+pub returns-then-has_no_kit-clause-news : goal.returns-then-has_no_kit-clause-news
+returns-then-has_no_kit-clause-news g c =
+    let s = c.args.session.now in
+    subst (AreNewFor s.checked s.tables) (sym c.without_kit.ensures.none) (none_new s.checked s.tables)
+
+pub returns-then-has_no_kit-clause-recorded : goal.returns-then-has_no_kit-clause-recorded
+returns-then-has_no_kit-clause-recorded g c =
+    let s = c.args.session.now in
+    subst (λ a. HasRecordedBy s.checked s.tables s.records a c.without_kit.result.tally.made) (sym c.without_kit.ensures.answer) c.without_kit.ensures.none
+
+pub returns-then-has_no_kit-clause-elision : goal.returns-then-has_no_kit-clause-elision
+returns-then-has_no_kit-clause-elision g c = subst (λ a. IsFromScratch (standing_of c.args.session.now) a) (sym c.without_kit.ensures.answer) tt
+
+pub returns-then-has_no_kit-clause-come : goal.returns-then-has_no_kit-clause-come
+returns-then-has_no_kit-clause-come g c = subst HasCome (sym c.without_kit.ensures.answer) tt
+
+pub returns-then-has_no_kit-clause-history : goal.returns-then-has_no_kit-clause-history
+returns-then-has_no_kit-clause-history g c = subst (λ a. HasHistory a (history c.without_kit.result.steps.items)) (sym c.without_kit.ensures.answer) tt
+
+pub returns-then-has_no_kit-clause-no_kit : goal.returns-then-has_no_kit-clause-no_kit
+returns-then-has_no_kit-clause-no_kit g c = ((λ is. c.has_no_kit.ensures.none c.if-has_no_kit.true), (λ none. c.without_kit.ensures.answer))
 
 pub returns-clause-elision : goal.returns-clause-elision
 returns-clause-elision g c =
