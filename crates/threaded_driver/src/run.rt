@@ -190,7 +190,10 @@ fn run_taken<V: View + Send, R: Threads + Wait + Sync, G: Gate>(
     );
     let Stock { pool, lists } = stock;
     session.keep_lists(lists);
-    (ran, pool)
+    match ran {
+        Ok(ended) => (Ok(ended), pool),
+        Err(mismatch) => (Err(mismatch), pool),
+    }
 }
 
 /// Gives a session its pool back, and the new records of a run that has ended so; where memory is refused for these, the records

@@ -1,7 +1,7 @@
-use Rattle.std.proofs.Common.{◌≡◌, ◌↔◌, [], ap, subst, sym, ◌∙◌}
+use Rattle.std.proofs.Common.{◌≡◌, ◌↔◌, [], IfOk, length, ap, subst, sym, ◌∙◌}
 use Rattle.positions.specs.declared.answer.RunAnswer.TheVariants as answer
 use Rattle.numbered_runs.specs.Named.{history}
-use Rattle.numbered_runs.specs.Come.{HasCome}
+use Rattle.numbered_runs.specs.Come.{HasCome, HasEnded}
 use Rattle.numbered_runs.specs.Recorded.{HasRecordedBy}
 use Rattle.kept_session.specs.Sessions.{AreNewFor, PlainSession, standing_of, stock_of}
 use Rattle.kept_session.proofs.Keeping.{none_new}
@@ -70,3 +70,9 @@ returns-clause-no_kit g c =
 pub returns-clause-history : goal.returns-clause-history
 returns-clause-history g c =
     if_ended c.run_taken-ran.result.0 c.run_taken-ran.new.session (λ (e : Ended). HasHistory e.answer (history e.steps.items)) (λ e end. end.history_of) c.run_taken-ran.ensures.end
+
+pub returns-clause-home : goal.returns-clause-home
+returns-clause-home g c =
+    let s = c.args.session.now in
+    subst (λ (x : PlainSession). IfOk c.run_taken-ran.result.0 (λ (e : Ended). HasEnded e.answer → length x.kits.kits ≡ length s.kits.kits))
+    (sym c.put_back.ensures.put) c.run_taken-ran.ensures.home
