@@ -41,7 +41,7 @@ returns-then-is_err-clause-beginning g c =
     let next = one_more_answer (standing_of c.loop-command.session) (standing_of c.keep_behind.new.session) c.loop-command.runs c.in_ok-written.written.0 c.loop-command.command-index c.deref-command-items.result.now c.command-item.result w.0 _ c.loop-command-test.true c.command-item.is
     (c.keep_behind.ensures.same ∙ c.in_ok-written.ensures.after) c.in_ok-written.ensures.runs w.2 in
     subst (λ cs. HasBeginning (g.W.Write.contents c.args.writer.now) (g.W.Write.contents c.answer_written.new.writer) (answers_from (standing_of c.args.session.now) 0 cs)) all
-    (beginning_of _ _ _ _ _ (Appends-more _ _ _ w.0 _ w.1 c.in_ok-written.ensures.written) (rw append_assoc next))
+    (beginning_of _ _ _ _ _ (Appends-more _ _ _ w.0 _ w.1 c.in_ok-written.ensures.written) (append_assoc w.0 _ _ ∙ next))
 
 pub returns-clause-beginning : goal.returns-clause-beginning
 returns-clause-beginning g c =
