@@ -5,11 +5,12 @@
 they count, so a proof that nothing else runs beside gets one processor alone. Here they come after all others, but for those
 of crates with edits, which wait for them. And a proof keeps the processors that it began with, of which a large one gets one,
 since each is reckoned to take the memory that the first one does. Here each proof of the longest chain, and of those that are
-nearly as long, gets two where there are four processors and memory holds them: the second shares what the first has loaded. More
-would take processors from other proofs, and each takes a tenth more of them for the same work. A program comes before the tests
-that are ready by then, which would go first, being longer: its sessions and figures wait for it. Must-fail edits are tried together,
-over what the crate's proof has checked (launcher/together.py). And what is below a crate is found once, which rt finds anew at
-each look, a minute and a half in all before its first proof.
+nearly as long, gets two where there are four processors and memory holds them: the second shares what the first has loaded. It gets
+up to four where no other task would wait for these: such a proof is at work alone for minutes, since all that is left waits for it,
+and four jobs take no more of the processors than two for the same work. A program comes before the tests that are ready by then,
+which would go first, being longer: its sessions and figures wait for it. Must-fail edits are tried together, over what the crate's
+proof has checked (launcher/together.py). And what is below a crate is found once, which rt finds anew at each look, a minute and a
+half in all before its first proof.
 Where rt's files are made otherwise than this knows of, this is `rt ci` and no more.
 """
 import importlib.machinery
@@ -27,8 +28,9 @@ from proved_modules import ProvedModules  # noqa: E402
 FIRST, FURTHER = 3_500_000_000, 1_000_000_000
 # What part of the longest chain's work makes another one long.
 LONG = 0.85
-# How many jobs a proof of a long chain has at most, and for how many processors it has each.
-MOST, EACH = 2, 2
+# How many jobs a proof of a long chain has at most beside other tasks, for how many processors it has each, and how many it has at most
+# where no other task would wait.
+BESIDE, EACH, MOST = 2, 2, 4
 
 
 def loaded(path):
@@ -72,23 +74,32 @@ def on_long_chains(tasks):
     return {name for name in long if kind_of(name) in ("proof", "tests")}
 
 
-def with_jobs(rt, call):
-    """The same call with more jobs, as many as the memory that is free now holds."""
+def part_of_each(rt, tasks, chains, given):
+    """How many processors a proof of these chains has where each other task that is at work, or could be, has one, by what was given so far.
 
-    def run(given, jobs):
-        held = 1 + int((rt.free() - FIRST) / FURTHER)
-        return call(given, max(jobs, min(MOST, rt.processors() // EACH, held)))
-
-    return run
-
-
-def chain_first(rt, tasks):
-    """The tasks, where those of the longest chains have more jobs."""
-    chains = on_long_chains(tasks)
-    return {
-        name: (before, work, needs, with_jobs(rt, call) if name in chains else call)
-        for name, (before, work, needs, call) in tasks.items()
+    Tests of crates that have none are over at once.
+    """
+    can_be = {
+        name
+        for name, (before, work, *_) in tasks.items()
+        if name not in given and (work or kind_of(name) != "tests") and all(other in given for other in before)
     }
+    return (rt.processors() - len(can_be - chains)) // max(len(can_be & chains), 1)
+
+
+def with_jobs(rt, tasks, chains):
+    """The tasks, where those of these chains have more jobs, as many as the memory that is free by then holds."""
+
+    def call_of(call):
+        def run(given, jobs):
+            held = 1 + int((rt.free() - FIRST) / FURTHER)
+            beside = min(BESIDE, rt.processors() // EACH)
+            alone = min(MOST, part_of_each(rt, tasks, chains, given))
+            return call(given, max(jobs, min(held, max(beside, alone))))
+
+        return run
+
+    return {name: (*task, call_of(call) if name in chains else call) for name, (*task, call) in tasks.items()}
 
 
 def is_program(crate):
@@ -117,7 +128,7 @@ def work_first(rt, in_lanes):
     def run(tasks):
         behind = without_work(tasks)
         left = {name: task for name, task in tasks.items() if name not in behind}
-        given = in_lanes(together.behind_proofs(programs_first(chain_first(rt, left))))
+        given = in_lanes(with_jobs(rt, together.behind_proofs(programs_first(left)), on_long_chains(left)))
         for name in behind:
             *_, call = tasks[name]
             given[name] = call(given, 1)
