@@ -189,6 +189,13 @@ module _ (rs : List PlainRecord) (row : PlainRow) (first : ℤ) (ps : List ℕ) 
 pub moved_twice : (row : PlainRow) (n z : ℤ) → moved_to (moved_to row n) z ≡ moved_to row z
 moved_twice row n z = ap (λ (zs : List ℤ). record row { arguments = zs }) (set-set row.arguments row.counted n z)
 
+-- where there is one argument, it is the number
+pub alone_set : (xs : List ℤ) (i : ℕ) (z : ℤ) → i < length xs → length xs ≡ 1 → slice_set xs i z ≡ z ∷ []
+alone_set [] i z l n = absurd (omega (arith, n))
+alone_set (x ∷ []) zero z l n = refl
+alone_set (x ∷ []) (suc i) z l n = absurd (omega (arith, l))
+alone_set (x ∷ y ∷ xs) i z l n = absurd (omega (arith, n))
+
 -- the next record of a row was found and is fresh
 pub next_stands : (rs : List PlainRecord) (row other : PlainRow) (first : ℤ) (ps more : List ℕ) (n place : ℕ) → other ≡ moved_to row (first +ℤ pos n) → n ≡ length ps → IsThere rs other place → is_fresh_at rs place ≡ true
     → more ≡ ps ++ place ∷ [] → AreInRow rs row first ps → AreInRow rs other first more
@@ -196,6 +203,12 @@ next_stands rs row other first ps more n place moved count there stand is h =
     subst (AreInRow rs other first) (sym is)
     (in_row_moved rs row other first (ps ++ place ∷ []) (λ z. sym (ap (λ r. moved_to r z) moved ∙ moved_twice row (first +ℤ pos n) z))
     (in_row_next rs row first ps h place (subst (λ r. IsThere rs r place) (moved ∙ ap (λ m. moved_to row (first +ℤ pos m)) count) there) stand))
+
+-- the same where the row didn't go on
+pub next_stays : (rs : List PlainRecord) (row : PlainRow) (first : ℤ) (ps more : List ℕ) (n place : ℕ) → n ≡ length ps → IsThere rs (moved_to row (first +ℤ pos n)) place → is_fresh_at rs place ≡ true
+    → more ≡ ps ++ place ∷ [] → AreInRow rs row first ps → AreInRow rs row first more
+next_stays rs row first ps more n place count there stand is h =
+    subst (AreInRow rs row first) (sym is) (in_row_next rs row first ps h place (subst (λ m. IsThere rs (moved_to row (first +ℤ pos m)) place) count there) stand)
 
 -- it wasn't
 pub stopped_in_row : (rs : List PlainRecord) (row other : PlainRow) (first : ℤ) (ps : List ℕ) → ((z : ℤ) → moved_to other z ≡ moved_to row z) → AreInRow rs row first ps → AreInRow rs other first ps

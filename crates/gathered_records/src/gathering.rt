@@ -5,6 +5,7 @@ ghost use Rattle.record_theory.specs.Named.{HaveValues};
 ghost use Rattle.rerun_records.specs.Blocks.{is_fresh_at};
 ghost use Rattle.gathered_records.specs.Gathering.{moved_to, IsThere, AreInRow};
 
+use crate::alone::put_alone;
 use crate::bounds::{PARTS, bounds_at, part_above};
 use crate::nesting::may_nest;
 use crate::row::Row;
@@ -329,7 +330,8 @@ fn fresh_in_row(
 {
     let most = bounds.count_from(first);
     let mut places = Vec::with_capacity(alloc, most.min(ROOM))?;
-    for _ in 0..most {
+    put_alone(records, row, first, most, &mut places)?;
+    for _ in places.len()..most {
         match next_fresh(records, row, first, places.len()) {
             Some(place) => places.push(place)?,
             None => return Ok(places),

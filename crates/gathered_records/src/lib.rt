@@ -1,6 +1,7 @@
 //! Records in a row, which are gathered into blocks behind a run.
 #![tactic(auto)]
 
+mod alone;
 mod bounds;
 mod flat;
 pub mod gathering;

@@ -1,5 +1,5 @@
 // Instances whose arguments are the same but for one, which is counted up.
-ghost use Rattle.std.specs.Prelude.{◌≡◌, ◌<◌, length, slice_get, Some};
+ghost use Rattle.std.specs.Prelude.{◌≡◌, ◌<◌, ◌∷◌, [], ℤ, true, length, slice_get, Some};
 ghost use Rattle.gathered_records.specs.Gathering.{moved_to};
 
 use std::alloc::{AllocError, Global};
@@ -80,6 +80,21 @@ impl Row {
     pub(crate) fn near(&self) -> usize {
         let number = self.arguments[self.counted].cast_unsigned() as usize;
         self.offset.wrapping_add(number)
+    }
+
+    /// The place at which the record of the instance with that number may lie.
+    #[inline(always)]
+    pub(crate) fn near_to(&self, number: i64) -> usize {
+        self.offset.wrapping_add(number.cast_unsigned() as usize)
+    }
+
+    /// Whether the instances have one argument, which is the counted one.
+    #[inline(always)]
+    #[tactic(auto, using(crate::proofs::Rows::alone_set))]
+    pub(crate) fn is_alone(&self) -> bool
+        ensures alone { result ≡ true → (z : ℤ) → (moved_to self.now z).arguments ≡ z ∷ [] }
+    {
+        self.arguments.len() == 1
     }
 
     /// Goes to the instance with that number.

@@ -1,13 +1,11 @@
-use Rattle.std.proofs.Common.{rules, ◌≡◌, ℤ, [], length, sym, subst, w64}
+use Rattle.std.proofs.Common.{rules, ◌≡◌, ℤ, length, subst, w64}
 use Rattle.std.proofs.lemmas.Int.{to_z-of_z}
 use Rattle.gathered_records.specs.Gathering.{AreInRow}
-use Rattle.gathered_records.proofs.Rows.{none_in_row, next_stands, stopped_in_row}
+use Rattle.gathered_records.proofs.Rows.{next_stands, stopped_in_row}
 use Rattle.gathered_records.proofs.gathering.fresh_in_row.Goals as goal
 
 pub loop-init : goal.loop-init
-loop-init c =
-    let none : c.in_ok-places.places.items ≡ [] = search rules in
-    subst (AreInRow c.args.records.now c.args.row.now _) (sym none) (none_in_row c.args.records.now c.args.row.now _)
+loop-init c = c.in_ok-put_alone.ensures.row
 
 pub loop-preserved : goal.loop-preserved
 loop-preserved c =
