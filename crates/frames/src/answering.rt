@@ -13,6 +13,7 @@ use activations::setting::Setting;
 use input_tables::Tables;
 use linked_program::checked::Checked;
 use loop_answers::answering::answer_ahead;
+use positions::work::Work;
 use rerun_records::records::Records;
 use running_ahead::ready::records_halves;
 use small_steps::machine::Machine;
@@ -56,6 +57,15 @@ impl<V: View> Strand<V> {
         };
         let leaves = leaves && leaves_halves(&self.machine, setting);
         answer_ahead(&mut self.machine, alloc, setting, calls, leaves)
+    }
+
+    /// Whether the topmost instance has a half of a loop left that was halved so often. Nothing is claimed of it.
+    #[inline(always)]
+    pub fn is_parted(&self, often: u32) -> bool {
+        match self.machine.top.work() {
+            Work::Halves(_, halvings, _) => halvings.saturating_add(often) <= meaning::HALVINGS,
+            _ => false,
+        }
     }
 }
 
