@@ -410,6 +410,12 @@ impl<J: Run, V: View> RightStrand<J, V> {
         self.body.strand.kits()
     }
 
+    /// Whether the topmost instance has a half of a loop left that was halved so often. Nothing rests on it.
+    #[inline(always)]
+    pub fn is_parted(&self, often: u32) -> bool {
+        self.body.strand.is_parted(often)
+    }
+
     /// Whether the next small step is that of an update.
     pub fn at_update(&self, scene: &Scene<'_, J>) -> bool
         ensures update { result ≡ at_update J.setting.codes self.now.strand }

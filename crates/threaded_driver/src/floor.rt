@@ -24,6 +24,7 @@ use crate::bell::Bell;
 use crate::desk::{Desk, Parts};
 use crate::found::Found;
 use crate::gate::{Gate, Point};
+use crate::parts::parted_by;
 use crate::spawned::Spawned;
 use crossbeam_utils::CachePadded;
 use input_tables::Tables;
@@ -79,6 +80,7 @@ pub struct Floor<'a, J: Run + Ledger + Stocked + Send, D: Deques, V: View> {
     bell: CachePadded<Bell>,
     kits: usize,
     pub(crate) has_records: bool,
+    pub(crate) parted: u32,
 }
 
 impl<'a, J: Run + Ledger + Stocked + Send, D: Deques, V: View> Model for Floor<'a, J, D, V> {
@@ -223,7 +225,7 @@ impl<J: Run + Ledger + Stocked + Send, D: Deques, V: View> Floor<'_, J, D, V> {
         let is_watched = gate.watches_updates();
         let is_alone = self.is_alone.load(Ordering::Relaxed);
         let steps = if is_alone { FEW } else { STEPS };
-        let mut spawned = Spawned::new(seat.holds_enough());
+        let mut spawned = Spawned::new(self.calls_children(seat, strand));
         for _ in 0..steps {
             self.steps_ahead(number, is_watched, is_alone, &mut spawned, strand, gate)?;
             if self.record_ahead(is_watched || is_alone, &mut spawned, strand, supply)? {
@@ -529,6 +531,7 @@ impl<'a, J: Run + Ledger + Stocked + Send, D: Deques, V: View> Floor<'a, J, D, V
             return Err((StartError::NoKit, pool));
         }
         let scene = Scene::new(program, tables, records);
+        let parted = parted_by(deques.deques.len());
         let (parts, seats, ledger) = match Parts::new(alloc, deques) {
             Ok(begun) => begun,
             Err(AllocError) => return Err((StartError::NoMemory, pool)),
@@ -546,6 +549,7 @@ impl<'a, J: Run + Ledger + Stocked + Send, D: Deques, V: View> Floor<'a, J, D, V
                     bell: CachePadded::new(Bell::new()),
                     kits,
                     has_records: !records.is_empty(),
+                    parted,
                 };
                 Ok((floor, seats))
             }

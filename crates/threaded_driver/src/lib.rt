@@ -9,6 +9,7 @@ mod found;
 pub mod gate;
 mod life;
 mod locking;
+mod parts;
 pub mod run;
 mod spawned;
 
