@@ -8,6 +8,7 @@ pub mod ending;
 pub mod failure;
 pub mod held;
 pub mod kits;
+pub mod locking;
 pub mod seat;
 mod spare;
 pub mod supply;

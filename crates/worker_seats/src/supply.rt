@@ -2,6 +2,7 @@
 ghost use Rattle.std.specs.Prelude.{◌≡◌, ◌+◌, ◌<◌, suc, None, IfSome, OnSome, IsNone};
 ghost use Rattle.worker_seats.specs.Balances.{spare_count, most};
 
+use crate::locking::locked;
 use crate::spare::Spare;
 use std::marker::PhantomData;
 use std::sync::ledger::{Ledger, Share};
@@ -65,7 +66,7 @@ fn give_back<D: Shelf<K, L>, K, L: Ledger, R: Wait>(
     ensures parts { share.new.parts ≡ share.old.parts }
     ensures counted { suc share.new.amount ≡ share.old.amount }
 {
-    shelf.lock(rt).give_kit(kit, share);
+    locked(rt, shelf).give_kit(kit, share);
 }
 
 impl<'a, D: Shelf<K, L>, K: Drop, L: Ledger, R: Wait> Supply<'a, D, K, L, R> {
@@ -137,7 +138,7 @@ impl<'a, D: Shelf<K, L>, K: Drop, L: Ledger, R: Wait> Supply<'a, D, K, L, R> {
         ensures taken { OnSome result (self.old.free ≡ suc self.new.free) }
         ensures untaken { IsNone result → self.new.free ≡ self.old.free }
     {
-        let mut shelf = self.shelf.lock(self.rt);
+        let mut shelf = locked(self.rt, self.shelf);
         self.had_plenty = shelf.has_plenty();
         match shelf.take_kit(&mut self.share) {
             Some(kit) => {
