@@ -27,6 +27,7 @@ use view_pool::View;
 impl<V: View> Layer<V> {
     /// Puts behind it what a record has of an instance at that depth, its readings where those are kept. Where memory is refused, or
     /// the depth is past its limit, some of the record's values are in and the others are not, and nothing else has changed.
+    #[inline(always)]
     #[tactic(auto, using(crate::proofs::Kept::noted_nothing))]
     pub(crate) fn absorb(
         &mut self,
