@@ -1,4 +1,4 @@
-use Rattle.std.proofs.Common.{rules, ◌≡◌, ◌∙◌, false, List, ℕ, reverse, sym, ap, subst}
+use Rattle.std.proofs.Common.{rules, ◌≡◌, ◌∙◌, ◌+◌, ◌<◌, ◌≤◌, ◌^◌, false, All, List, ℕ, length, reverse, sym, ap, subst, vec_len, vec_capacity, arith}
 use Rattle.positions.specs.Activations.{PlainActivation}
 use Rattle.positions.specs.Code.{PlainLoop, loop_at}
 use Rattle.positions.specs.Strands.{PlainStrand}
@@ -47,3 +47,24 @@ returns-clause-ahead g c =
     let below : s.below ≡ reverse c.reserve-else-is_err.new.self.items = ap (λ (xs : List PlainActivation). reverse xs) items in
     half_goes S s c.args.machine.now c.machine.view_is c.requires.running c.in-Some.ensures.clear a same c.reserve.new.self.items (reverse c.reserve-else-is_err.new.self.items) path below
     c.goes_on.new.top c.chain-came.new.layer c.goes_on.new.path.items (reverse c.goes_on.new.below.items) (c.if-goes_on.ensures.came S s.layer c.chain-came.new.layer grain halved chained)
+
+pub goes_on-requires-clause-copies : goal.goes_on-requires-clause-copies
+goes_on-requires-clause-copies g c =
+    subst (λ (x : PlainActivation). All (λ v. v.items ≡ x.slots) c.in-Some-copies.copies.items) (sym c.chain-came.ensures.top) c.in-Some-copies.ensures.copies
+
+pub goes_on-requires-clause-children : goal.goes_on-requires-clause-children
+goes_on-requires-clause-children g c =
+    let same : c.args.machine.now.top ≡ c.chain-came.new.top = ap (λ (z : PlainStrand). z.top) (sym c.machine.view_is) ∙ sym c.chain-came.ensures.top in
+    subst (λ (x : PlainActivation). x.children + 1024 < 2 ^ 64) same c.in-Some.ensures.children
+
+pub goes_on-requires-clause-path_room : goal.goes_on-requires-clause-path_room
+goes_on-requires-clause-path_room g c =
+    let many : length c.in-Some-copies.copies.items ≡ c.in-Some.levels = c.in-Some-copies.ensures.many in
+    let room : vec_len c.reserve.new.self + (c.in-Some.levels + 1) ≤ vec_capacity c.reserve.new.self = search rules in
+    omega (arith, many, room)
+
+pub goes_on-requires-clause-below_room : goal.goes_on-requires-clause-below_room
+goes_on-requires-clause-below_room g c =
+    let many : length c.in-Some-copies.copies.items ≡ c.in-Some.levels = c.in-Some-copies.ensures.many in
+    let room : vec_len c.reserve-else-is_err.new.self + (c.in-Some.levels + 1) ≤ vec_capacity c.reserve-else-is_err.new.self = search rules in
+    omega (arith, many, room)
