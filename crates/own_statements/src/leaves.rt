@@ -23,8 +23,8 @@ pub struct Leaves<'a> {
 }
 
 /// Records iterations that no records answer, one after another, in that layer, in which nothing was noted yet, as far as they do their
-/// statements by themselves, and so many at most; how many were recorded. Where memory is refused when it becomes a record, the loop's
-/// layer has other values.
+/// statements by themselves, and so many at most; how many were recorded, and whether nothing is noted in the layer again. Where memory is
+/// refused when it becomes a record, the loop's layer has other values.
 #[inline(always)]
 pub fn record_each<V: View>(
     own: &mut Layer<V>,
@@ -34,15 +34,17 @@ pub fn record_each<V: View>(
     leaves: Leaves<'_>,
     child: &mut Activation,
     numbers: &mut Vec<i64>,
-) -> Result<u32, AllocError>
+) -> Result<(u32, bool), AllocError>
     requires body { IsBody setting.program.now.codes leaves.first.callee leaves.first.body.now }
     requires unknown { AreUnknown (lent setting) (plain_leaf leaves.first) leaves.most }
     requires blank { own.old ≡ blank true setting.program.now.kinds (length setting.program.now.codes) }
     requires kinds { layer.old.kinds ≡ setting.program.now.kinds }
     requires monoids { All IsMonoid setting.program.now.kinds }
     ensures leaves { IfOk result (λ done. AreLeaves (lent setting.entry) (plain_leaf leaves.entry.first)
-        layer.old tally.old done layer.new tally.new) }
-    ensures some { IfOk result (λ done. done ≤ leaves.entry.most) }
+        layer.old tally.old done.0 layer.new tally.new) }
+    ensures some { IfOk result (λ done. done.0 ≤ leaves.entry.most) }
+    ensures blank { IfOk result (λ done. done.1 ≡ true
+        → own.new ≡ blank true setting.entry.program.now.kinds (length setting.entry.program.now.codes)) }
     ensures left_open { OnErr result (length tally.new.opened ≡ suc (length tally.old.opened)) }
     ensures kinds { layer.new.kinds ≡ layer.old.kinds }
     ensures own_kinds { own.new.kinds ≡ setting.entry.program.now.kinds }
@@ -56,16 +58,16 @@ pub fn record_each<V: View>(
             Some(leaf) => match record_in(own, layer, tally, setting, leaf, child, numbers) {
                 Ok(true) => {
                     if own.renew(true, count).is_err() {
-                        return Ok(done + 1);
+                        return Ok((done + 1, false));
                     }
                 }
-                Ok(false) => return Ok(done),
+                Ok(false) => return Ok((done, false)),
                 Err(error) => return Err(error),
             },
-            None => return Ok(done),
+            None => return Ok((done, true)),
         }
     }
-    Ok(most)
+    Ok((most, true))
 }
 
 /// The iteration that lies so far behind that one, where its number fits.

@@ -1,5 +1,5 @@
 //! Iterations one after another in a run that has records: those that records answer are taken over, and each other one is recorded at once.
-ghost use Rattle.std.specs.Prelude.{◌≡◌, ◌∷◌, ◌-◌, ◌≤◌, ◌<◌, ◌==◌, [], true, false, None, All, IfErr, IfNone, IfOk, IfSome, OnErr, OnOk, OnSome, map};
+ghost use Rattle.std.specs.Prelude.{◌≡◌, ◌∷◌, ◌-◌, ◌≤◌, ◌<◌, ◌==◌, [], true, false, None, All, IfErr, IfNone, IfOk, IfSome, OnErr, OnOk, OnSome, length, map};
 ghost use Rattle.monoid_laws.specs.Kinds.{AreWorths, IsMonoid};
 ghost use Rattle.meaning.specs.Elision.{depth_limit};
 ghost use Rattle.linked_program.specs.CodeView.{expression as plain, memo_of};
@@ -8,7 +8,7 @@ ghost use Rattle.rerun_records.specs.Sums.{IsBatchFor};
 ghost use Rattle.positions.specs.Activations.{ShareFits};
 ghost use Rattle.positions.specs.Advance.{record_for};
 ghost use Rattle.positions.specs.Code.{loop_at};
-ghost use Rattle.positions.specs.Layers.{absorbing};
+ghost use Rattle.positions.specs.Layers.{absorbing, blank};
 ghost use Rattle.activations.specs.Given.{lent, loop_of};
 ghost use Rattle.answered_loops.specs.Answered.{answered_more};
 ghost use Rattle.own_statements.specs.Fills.{IsCounted};
@@ -22,8 +22,8 @@ use crate::leaf_chain::{Stretch, record_chain};
 use activations::code::{LoopCode, instructions};
 use activations::setting::Setting;
 use activations::shares::{behind, number_of};
-use layers::layer::DEEPEST;
-use own_statements::leaf::Leaf;
+use layers::layer::{DEEPEST, Layer};
+use own_statements::leaf::{Leaf, own_layer};
 use rerun_records::batch::Batch;
 use rerun_records::series::Series;
 use small_steps::machine::Machine;
@@ -91,8 +91,12 @@ pub(crate) fn chain_through<V: View>(
         number: number_of(stretch.site, stretch.share),
         body,
     };
-    match record_chain(machine, alloc, setting, first, stretch.most, kit) {
-        Ok(done) => Ok(done),
+    let own = match own_layer(&mut machine.lists, alloc, setting.program, kit) {
+        Ok(own) => own,
+        Err(kit) => return Ok((0, kit)),
+    };
+    match record_chain(machine, setting, first, stretch.most, own) {
+        Ok((count, _, own)) => Ok((count, own.close_in(&mut machine.lists))),
         Err(_) => Err(None),
     }
 }
@@ -137,12 +141,16 @@ fn answered_chain<V: View>(
     let size = setting.program.slots(callee);
     let left = machine.top.left() - 1;
     let body = instructions(setting.program, callee, 0, 0);
-    let mut kit = kit;
+    // One layer serves for all that are recorded: to make one anew takes a third as long as a record.
+    let mut own = match own_layer(&mut machine.lists, alloc, setting.program, kit) {
+        Ok(own) => own,
+        Err(kit) => return Ok((0, kit)),
+    };
     let mut done = 0;
     let mut near = stretch.share.first as usize;
     for _ in 0..stretch.most {
         if done == stretch.most {
-            return Ok((done, kit));
+            return Ok((done, own.close_in(&mut machine.lists)));
         }
         let leaf = Leaf {
             callee,
@@ -155,23 +163,24 @@ fn answered_chain<V: View>(
             most: stretch.most - done,
             near,
         };
-        match go_on(machine, alloc, setting, leaf, ahead, kit) {
-            Ok((passed, back)) => {
-                kit = back;
+        match go_on(machine, alloc, setting, leaf, ahead, own) {
+            Ok((passed, is_blank, back)) => {
+                own = back;
                 done += passed.count;
-                if passed.count == 0 {
-                    return Ok((done, kit));
+                if passed.count == 0 || !is_blank {
+                    return Ok((done, own.close_in(&mut machine.lists)));
                 }
                 near = passed.near;
             }
-            Err(refused) => return Err(refused),
+            Err(Some(back)) => return Err(Some(back.close_in(&mut machine.lists))),
+            Err(None) => return Err(None),
         }
     }
-    Ok((done, kit))
+    Ok((done, own.close_in(&mut machine.lists)))
 }
 
-/// The iterations from that one on that records answer together, or that one alone, which is recorded. How many are over; where none is,
-/// nothing has changed.
+/// The iterations from that one on that records answer together, or that one alone, which is recorded. How many are over, whether nothing is
+/// noted in the layer again that is for records, and that layer; where none is over, nothing else has changed.
 #[inline(always)]
 fn go_on<V: View>(
     machine: &mut Machine<V>,
@@ -179,11 +188,11 @@ fn go_on<V: View>(
     setting: Setting<'_>,
     leaf: Leaf<'_>,
     ahead: Ahead,
-    kit: Kit<V>,
-) -> Result<(Passed, Kit<V>), Option<Kit<V>>>
+    own: Layer<V>,
+) -> Result<(Passed, bool, Layer<V>), Option<Layer<V>>>
     requires body { IsBody setting.program.now.codes leaf.callee leaf.body.now }
     requires some { 0 < ahead.most }
-    requires kit { kit ≡ setting.program.now.kinds }
+    requires blank { own ≡ blank true setting.program.now.kinds (length setting.program.now.codes) }
     requires kinds { machine.old.layer.kinds ≡ setting.program.now.kinds }
     requires monoids { All IsMonoid setting.program.now.kinds }
     requires answers { HaveValues setting.program.now.kinds setting.records.now }
@@ -192,8 +201,10 @@ fn go_on<V: View>(
     ensures few { IfOk result (λ p. p.0.count ≤ ahead.most) }
     ensures others { OnOk result
         (machine.new ≡ record machine.old { layer = machine.new.layer; tally = machine.new.tally }) }
-    ensures kit { IfOk result (λ p. p.1 ≡ setting.entry.program.now.kinds) }
-    ensures kit_back { IfErr result (λ e. IfSome e (λ k. k ≡ setting.entry.program.now.kinds)) }
+    ensures blank { IfOk result (λ p. p.1 ≡ true
+        → p.2 ≡ blank true setting.entry.program.now.kinds (length setting.entry.program.now.codes)) }
+    ensures own_kinds { IfOk result (λ p. p.2.kinds ≡ setting.entry.program.now.kinds) }
+    ensures own_back { IfErr result (λ e. IfSome e (λ o. o.kinds ≡ setting.entry.program.now.kinds)) }
     ensures turn { IfErr result (λ e. OnSome e (IsRefusedTurn machine.old machine.new)) }
     ensures leaf { IfErr result (λ e. IfNone e (IsRefusedLeaf machine.old machine.new)) }
     ensures kinds { machine.new.layer.kinds ≡ machine.old.layer.kinds }
@@ -203,10 +214,10 @@ fn go_on<V: View>(
     let keeps = keeps_reads(machine);
     match answers_from(setting, leaf, ahead, keeps) {
         Some(batch) => match take_on(machine, alloc, setting, leaf, ahead, batch) {
-            Ok(passed) => Ok((passed, kit)),
-            Err(_) => Err(Some(kit)),
+            Ok(passed) => Ok((passed, true, own)),
+            Err(_) => Err(Some(own)),
         },
-        None => record_next(machine, alloc, setting, leaf, ahead, kit),
+        None => record_next(machine, setting, leaf, ahead, own),
     }
 }
 
@@ -328,16 +339,15 @@ fn take_batch<V: View>(
 #[inline(always)]
 fn record_next<V: View>(
     machine: &mut Machine<V>,
-    alloc: Global,
     setting: Setting<'_>,
     leaf: Leaf<'_>,
     ahead: Ahead,
-    kit: Kit<V>,
-) -> Result<(Passed, Kit<V>), Option<Kit<V>>>
+    own: Layer<V>,
+) -> Result<(Passed, bool, Layer<V>), Option<Layer<V>>>
     requires body { IsBody setting.program.now.codes leaf.callee leaf.body.now }
     requires some { 0 < ahead.most }
     requires unknown { record_for (lent setting) (depth_limit - leaf.left) leaf.callee (leaf.number ∷ []) ≡ None }
-    requires kit { kit ≡ setting.program.now.kinds }
+    requires blank { own ≡ blank true setting.program.now.kinds (length setting.program.now.codes) }
     requires kinds { machine.old.layer.kinds ≡ setting.program.now.kinds }
     requires monoids { All IsMonoid setting.program.now.kinds }
     ensures passed { IfOk result (λ p. ArePassed (lent setting.entry) (plain_leaf leaf.entry) p.0.count
@@ -345,21 +355,23 @@ fn record_next<V: View>(
     ensures few { IfOk result (λ p. p.0.count ≤ ahead.most) }
     ensures others { OnOk result
         (machine.new ≡ record machine.old { layer = machine.new.layer; tally = machine.new.tally }) }
-    ensures kit { IfOk result (λ p. p.1 ≡ setting.entry.program.now.kinds) }
-    ensures kit_back { IfErr result (λ e. IfSome e (λ k. k ≡ setting.entry.program.now.kinds)) }
+    ensures blank { IfOk result (λ p. p.1 ≡ true
+        → p.2 ≡ blank true setting.entry.program.now.kinds (length setting.entry.program.now.codes)) }
+    ensures own_kinds { IfOk result (λ p. p.2.kinds ≡ setting.entry.program.now.kinds) }
+    ensures own_back { IfErr result (λ e. IfSome e (λ o. o.kinds ≡ setting.entry.program.now.kinds)) }
     ensures turn { IfErr result (λ e. OnSome e (IsRefusedTurn machine.old machine.new)) }
     ensures leaf { IfErr result (λ e. IfNone e (IsRefusedLeaf machine.old machine.new)) }
     ensures kinds { machine.new.layer.kinds ≡ machine.old.layer.kinds }
     ensures values { HaveValues setting.entry.program.now.kinds machine.old.tally.made
         → HaveValues setting.entry.program.now.kinds machine.new.tally.made }
 {
-    match record_chain(machine, alloc, setting, leaf, 1, kit) {
-        Ok((count, back)) => {
+    match record_chain(machine, setting, leaf, 1, own) {
+        Ok((count, is_blank, back)) => {
             let passed = Passed {
                 count,
                 near: ahead.near.wrapping_add(1),
             };
-            Ok((passed, back))
+            Ok((passed, is_blank, back))
         }
         Err(_) => Err(None),
     }

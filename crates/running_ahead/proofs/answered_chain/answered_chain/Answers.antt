@@ -15,7 +15,7 @@ loop-init g c = record {
   few = (let least : 0 ≤ c.args.stretch.most = omega arith in least);
   others = refl;
   opened = refl;
-  kit = c.requires.kit;
+  blank = search rules;
   kinds = refl;
   values = λ h. h;
 }
@@ -44,7 +44,7 @@ loop-preserved g c =
       few = omega (arith, fits, room);
       others = c.in-Ok.ensures.others ∙ ap (λ (z : PlainStrand). record z { layer = after.layer; tally = after.tally }) c.loop.invariant.others;
       opened = passed_opened S (leaf_of S x.site j m.top.left (x.share.first + d)) k before.layer after.layer before.tally after.tally passed ∙ c.loop.invariant.opened;
-      kit = c.in-Ok.ensures.kit;
+      blank = search rules;
       kinds = c.go_on.ensures.kinds ∙ c.loop.invariant.kinds;
       values = λ h. c.go_on.ensures.values (c.loop.invariant.values h);
     }

@@ -20,7 +20,7 @@ returns-in-Ok-clause-records g c =
     let x = c.args.stretch in
     let m : PlainStrand = c.args.machine.now in
     let j : PlainLoop = loop_of c.args.code in
-    let k = c.in-Ok.done.0 in
+    let k = c.in-Ok.count in
     let after = c.record_chain.new.machine in
     let n : ℤ = to_z w64 (of_z w64 c.number_of.result) in
     let number : n ≡ x.site.low +ℤ pos x.share.first = search rules in
@@ -34,4 +34,4 @@ pub returns-in-Ok-clause-opened : goal.returns-in-Ok-clause-opened
 returns-in-Ok-clause-opened g c =
     let m : PlainStrand = c.args.machine.now in
     let after = c.record_chain.new.machine in
-    leaves_opened (lent c.args.setting) _ c.in-Ok.done.0 m.layer after.layer m.tally after.tally c.in-Ok.ensures.leaves
+    leaves_opened (lent c.args.setting) _ c.in-Ok.count m.layer after.layer m.tally after.tally c.in-Ok.ensures.leaves

@@ -12,21 +12,16 @@ returns-then-is_err-clause-leaves g c =
     let m : PlainStrand = c.args.machine.now in
     subst (λ (s : PlainStrand). AreLeaves (lent c.args.setting) (plain_leaf c.args.first) m.layer m.tally 0 s.layer s.tally) (sym c.machine.view_is) no_leaf
 
-pub returns-in-Err-clause-leaves : goal.returns-in-Err-clause-leaves
-returns-in-Err-clause-leaves g c =
-    let m : PlainStrand = c.args.machine.now in
-    subst (λ (s : PlainStrand). AreLeaves (lent c.args.setting) (plain_leaf c.args.first) m.layer m.tally 0 s.layer s.tally) (sym c.machine.view_is) no_leaf
-
-pub returns-in-Ok-recorded-clause-values : goal.returns-in-Ok-recorded-clause-values
-returns-in-Ok-recorded-clause-values g c h =
+pub returns-in-Ok-clause-values : goal.returns-in-Ok-clause-values
+returns-in-Ok-clause-values g c h =
     c.record_each-recorded.ensures.values (subst (λ (s : PlainStrand). HaveValues c.args.setting.program.now.kinds s.tally.made) (sym c.machine.view_is) h)
 
-pub returns-in-Err-recorded-clause-values : goal.returns-in-Err-recorded-clause-values
-returns-in-Err-recorded-clause-values g c h =
+pub returns-in-Err-clause-values : goal.returns-in-Err-clause-values
+returns-in-Err-clause-values g c h =
     c.record_each-recorded.ensures.values (subst (λ (s : PlainStrand). HaveValues c.args.setting.program.now.kinds s.tally.made) (sym c.machine.view_is) h)
 
-pub returns-in-Err-recorded-clause-refused : goal.returns-in-Err-recorded-clause-refused
-returns-in-Err-recorded-clause-refused g c =
+pub returns-in-Err-clause-refused : goal.returns-in-Err-clause-refused
+returns-in-Err-clause-refused g c =
     let r : PlainLayer = c.replace.result in
     record {
       below = r;
@@ -34,6 +29,6 @@ returns-in-Err-recorded-clause-refused g c =
           ∙ reverse-append c.machine.inside.lower.items (r ∷ []) ∙ ap (λ (s : PlainStrand). r ∷ s.lower) c.machine.view_is;
       below_kinds = ap (λ (l : PlainLayer). l.kinds) c.replace.ensures.value ∙ c.record_each-recorded.ensures.kinds ∙ ap (λ (s : PlainStrand). s.layer.kinds) c.machine.view_is;
       kinds = ap (λ (l : PlainLayer). l.kinds) c.replace.ensures.after ∙ c.record_each-recorded.ensures.own_kinds ∙ sym c.requires.kinds;
-      opened = c.in-Err-recorded.ensures.left_open ∙ ap (λ (s : PlainStrand). suc (length s.tally.opened)) c.machine.view_is;
+      opened = c.in-Err.ensures.left_open ∙ ap (λ (s : PlainStrand). suc (length s.tally.opened)) c.machine.view_is;
       phase = ap (λ (s : PlainStrand). s.phase) c.machine.view_is;
     }
