@@ -251,6 +251,18 @@ pub one_for_each : (d : Reading) (pair : List Reading) (old mid new : List Span)
 one_for_each d pair old mid new s t n e f g h =
     both_covered d pair new n (put_one mid new t (note_of (slice_index_or pair 0 d)) h (put_holds old mid s (slice_index_or pair 0 d) e g)) (put_holds mid new t (slice_index_or pair 1 d) f h)
 
+-- two readings of the rows of two others
+pub two_rows : (d : Reading) (pair others : List Reading) → length pair ≡ 2 → length others ≡ 2
+    → ((h : List Span) → is_covered_by h (note_of (slice_index_or pair 0 d)) ≡ is_covered_by h (note_of (slice_index_or others 0 d)))
+    → ((h : List Span) → is_covered_by h (note_of (slice_index_or pair 1 d)) ≡ is_covered_by h (note_of (slice_index_or others 1 d)))
+    → (h : List Span) → every (is_covered_by h) (map note_of others) ≡ true → every (is_covered_by h) (map note_of pair) ≡ true
+two_rows d pair others n m e f h t =
+    ap (λ (xs : List Reading). every (is_covered_by h) (map note_of xs)) (two_there d pair n)
+    ∙ ap (λ b. b && (is_covered_by h (note_of (slice_index_or pair 1 d)) && true)) (e h)
+    ∙ ap (λ b. is_covered_by h (note_of (slice_index_or others 0 d)) && (b && true)) (f h)
+    ∙ sym (ap (λ (xs : List Reading). every (is_covered_by h) (map note_of xs)) (two_there d others m))
+    ∙ t
+
 -- ---- where no change lies in a span, none changes what is covered
 
 whole_has : (s : Span) (row : ℤ) → s.whole ≡ true → has_row s row ≡ true

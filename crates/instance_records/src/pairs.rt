@@ -1,7 +1,10 @@
 // Readings that lie in their records, two at most in each, in one list.
-ghost use Rattle.std.specs.Prelude.{◌≡◌, ◌++◌, [], IfOk, map, true};
+ghost use Rattle.std.specs.Prelude.{◌≡◌, ◌++◌, [], IfOk, List, map, true};
+ghost use Rattle.meaning.specs.Every.{every};
 ghost use Rattle.evaluation.specs.Short.{note_of};
+ghost use Rattle.instance_records.specs.declared.spans.Span.{Span};
 ghost use Rattle.instance_records.specs.Readings.{all_of};
+ghost use Rattle.instance_records.specs.Spans.{is_covered_by};
 
 use crate::readings::Readings;
 use evaluation::reading::Reading;
@@ -44,4 +47,43 @@ pub(crate) fn with_pairs(
         part.put_pair(&mut all)?;
     }
     Ok(all)
+}
+
+/// Whether a cell or a row was read of the row of which the other was.
+#[inline(always)]
+pub(crate) fn is_of_row(reading: &Reading, other: &Reading) -> bool
+    ensures of { result ≡ true → (h : List Span)
+        → is_covered_by h (note_of reading.now) ≡ is_covered_by h (note_of other.now) }
+{
+    match reading {
+        Reading::Cell { table, row, .. } => match other {
+            Reading::Cell {
+                table: of,
+                row: at,
+                ..
+            } => *table == *of && *row == *at,
+            _ => false,
+        },
+        Reading::Has { table, row, .. } => match other {
+            Reading::Has {
+                table: of,
+                row: at,
+                ..
+            } => *table == *of && *row == *at,
+            _ => false,
+        },
+        _ => false,
+    }
+}
+
+/// Whether the two were read, one by one, of the rows of which the others were.
+#[inline(always)]
+pub(crate) fn are_of_rows(pair: &[Reading; 2], others: &[Reading; 2]) -> bool
+    ensures of { result ≡ true → (h : List Span) → every (is_covered_by h) (map note_of others.now) ≡ true
+        → every (is_covered_by h) (map note_of pair.now) ≡ true }
+{
+    if !is_of_row(&pair[0], &others[0]) {
+        return false;
+    }
+    is_of_row(&pair[1], &others[1])
 }

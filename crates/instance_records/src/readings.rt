@@ -1,10 +1,11 @@
 //! What instances have read, each by reference to what the instances below it have.
-ghost use Rattle.std.specs.Prelude.{◌≡◌, ◌≤◌, ◌++◌, ◌∷◌, [], IfOk, IfSome, OnOk, ℕ, ℤ, length, map, not, true, false};
+ghost use Rattle.std.specs.Prelude.{◌≡◌, ◌≤◌, ◌++◌, ◌∷◌, [], IfOk, IfSome, OnOk, List, ℕ, ℤ, length, map, not, true, false};
 ghost use Rattle.std.specs.List.{flat_map};
 ghost use Rattle.meaning.specs.Every.{every};
 ghost use Rattle.evaluation.specs.declared.note.Note.{Note as PlainNote};
 ghost use Rattle.evaluation.specs.declared.note.Note.TheVariants.{Cell, Sum};
 ghost use Rattle.evaluation.specs.Short.{note_of};
+ghost use Rattle.instance_records.specs.declared.spans.Span.{Span as PlainSpan};
 ghost use Rattle.instance_records.specs.Spans.{is_covered_by};
 ghost use Rattle.std.specs.Arc.{arc_value};
 ghost use Rattle.instance_records.specs.Full.{HasCells, IsFullNode};
@@ -20,7 +21,7 @@ use crate::few_spans::FewSpans;
 use crate::full::Full;
 use crate::narrowing::{how_many, how_many_own, lowest, touched_own};
 use crate::own::{has_own, is_cell};
-use crate::pairs::{are_nothing, are_pairs, with_pairs};
+use crate::pairs::{are_nothing, are_of_rows, are_pairs, is_of_row, with_pairs};
 use crate::short_list::ShortList;
 use crate::spans::{Span, cover_all, first_row, may_have, put_one, put_pair};
 use crate::touching::{
@@ -418,6 +419,26 @@ impl Readings {
             Held::One(reading) => cover_all(spans, slice::from_ref(reading)),
             Held::Two(pair) => cover_all(spans, pair),
             Held::Shared(node) => node_lies_in(node, spans),
+        }
+    }
+
+    /// Whether these were read, one by one, of the rows of which the others were; asked of no more than two that lie by themselves.
+    #[inline(always)]
+    pub fn have_rows_of(&self, others: &Readings) -> bool
+        ensures have { result ≡ true → (h : List PlainSpan) → every (is_covered_by h) others.now ≡ true
+            → every (is_covered_by h) self.now ≡ true }
+    {
+        match &self.held {
+            Held::Nothing => true,
+            Held::One(reading) => match &others.held {
+                Held::One(other) => is_of_row(reading, other),
+                _ => false,
+            },
+            Held::Two(pair) => match &others.held {
+                Held::Two(other) => are_of_rows(pair, other),
+                _ => false,
+            },
+            Held::Shared(_) => false,
         }
     }
 
