@@ -61,7 +61,7 @@ reads_of r = r.reads
 -- ---- levels
 
 -- what follows for each level follows for all
-each_level : (old new : List ℕ) (before now : List PlainRecord) → ((level : PlainLevel) → CoversBut old before level → CoversBut new now level)
+pub each_level : (old new : List ℕ) (before now : List PlainRecord) → ((level : PlainLevel) → CoversBut old before level → CoversBut new now level)
     → (levels : List PlainLevel) → AreLevelsBut old before levels → AreLevelsBut new now levels
 each_level old new before now step [] h = tt
 each_level old new before now step (l ∷ ls) h = (step l h.0, each_level old new before now step ls h.1)

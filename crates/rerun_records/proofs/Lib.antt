@@ -5,6 +5,7 @@ pub mod OneTime
 pub mod Homes
 pub mod Covering
 pub mod Passing
+pub mod SameRows
 pub mod Leaves
 pub mod Wholes
 pub mod Instances

@@ -1,12 +1,15 @@
 // Records in a list, found by the numbers of their procedures and arguments, and put into it.
-ghost use Rattle.std.specs.Prelude.{◌≡◌, ◌<◌, ◌≤◌, ◌+◌, length, Some, None, IfSome, IfNone, map, true, false, slice_get};
-ghost use Rattle.std.specs.Prelude.{option_copied, vec_capacity};
+ghost use Rattle.std.specs.Prelude.{◌≡◌, ◌<◌, ◌≤◌, ◌+◌, List, length, Some, None, IfSome, IfNone, map, true, false, slice_get};
+ghost use Rattle.std.specs.Prelude.{option_copied, slice_set, vec_capacity};
 ghost use Rattle.std.specs.List.{find, position_or_len};
 ghost use Rattle.place_chains.specs.Mixing.{number_of as mixed_number};
-ghost use Rattle.record_theory.specs.Record.{is_of, same_instance, instance_number, as_made};
+ghost use Rattle.record_theory.specs.Record.{PlainRecord, is_of, same_instance, instance_number, as_made};
 ghost use Rattle.record_theory.specs.Numbers.{with_numbers, HaveNumbers};
 ghost use Rattle.record_theory.specs.InStep.{IsInStep, ReadNow, reads_agree};
+ghost use Rattle.meaning.specs.Every.{every};
 ghost use Rattle.meaning.specs.Tables.{Tables as PlainTables};
+ghost use Rattle.instance_records.specs.declared.spans.Span.{Span};
+ghost use Rattle.instance_records.specs.Spans.{is_covered_by};
 ghost use Rattle.record_theory.specs.Commits.{put_record, put_records, AreSingle};
 ghost use Rattle.rerun_records.specs.Blocks.{BlocksFit, BlocksRemain, IsFree, is_fresh_at};
 ghost use Rattle.rerun_records.specs.Covers.{AreKept};
@@ -351,6 +354,35 @@ pub(crate) fn place_for(list: &[Record], places: &Places, number: u32, made: &Re
     }
 }
 
+// Puts a record in the place of another, which is handed out. Where it has read of the rows of which that one had, its hulls hold them.
+#[inline(always)]
+fn replace_in(list: &mut Vec<Record>, covers: &mut Covers, place: usize, made: Record) -> Record
+    requires within { place < length list.old.items }
+    ensures put { list.new.items ≡ slice_set list.old.items place made }
+    ensures room { vec_capacity list.new ≡ vec_capacity list.old }
+    ensures covered { AreKept list.old.items covers.old → AreKept list.new.items covers.new }
+{
+    let is_held = has_rows_of(&made, record_at(list, place));
+    let old = mem::replace(&mut list[place], made);
+    if is_held {
+        return old;
+    }
+    covers.put_in(list, place);
+    old
+}
+
+// Whether a record has read of the rows of which the other one had, if there is one and that is seen at once.
+#[inline(always)]
+fn has_rows_of(made: &Record, other: Option<&Record>) -> bool
+    ensures has { result ≡ true → (r : PlainRecord) → option_copied other.entry ≡ Some r → (h : List Span)
+        → every (is_covered_by h) r.reads ≡ true → every (is_covered_by h) made.now.reads ≡ true }
+{
+    match other {
+        Some(record) => made.reads().have_rows_of(record.reads()),
+        None => false,
+    }
+}
+
 // Puts a record at its place, or behind the others under that number, for which there is room; the one that it replaces is handed out.
 #[inline(always)]
 fn put_at(
@@ -374,9 +406,7 @@ fn put_at(
     ensures covered { AreKept list.new.items covers.new }
 {
     if place < list.len() {
-        let old = mem::replace(&mut list[place], made);
-        covers.put_in(list, place);
-        return Some(old);
+        return Some(replace_in(list, covers, place, made));
     }
     list.push_reserved(made);
     places.push(number);

@@ -10,14 +10,14 @@ use Rattle.rerun_records.proofs.listing.put_at.Goals as goal
 pub returns-then-place-len-clause-put : goal.returns-then-place-len-clause-put
 returns-then-place-len-clause-put c =
     let within : c.args.place < length c.args.list.now.items = search rules in
-    ap (slice_set c.args.list.now.items c.args.place) c.replace-old.ensures.after ∙ set_is_put c.args.list.now.items c.args.made c.args.place c.requires.place within
+    c.replace_in.ensures.put ∙ set_is_put c.args.list.now.items c.args.made c.args.place c.requires.place within
 
 pub returns-then-place-len-clause-numbered : goal.returns-then-place-len-clause-numbered
 returns-then-place-len-clause-numbered c =
     let within : c.args.place < length c.args.list.now.items = search rules in
     c.requires.numbered
     ∙ sym (set_numbers c.args.list.now.items c.args.made c.args.place c.requires.place within)
-    ∙ ap (λ (r : PlainRecord). map instance_number (slice_set c.args.list.now.items c.args.place r)) (sym c.replace-old.ensures.after)
+    ∙ ap (λ (rs : List PlainRecord). map instance_number rs) (sym c.replace_in.ensures.put)
 
 pub returns-clause-put : goal.returns-clause-put
 returns-clause-put c =
@@ -25,12 +25,7 @@ returns-clause-put c =
     c.push_reserved.ensures.items ∙ push_is_put c.args.list.now.items c.args.made c.args.place c.requires.place behind
 
 pub returns-then-place-len-clause-covered : goal.returns-then-place-len-clause-covered
-returns-then-place-len-clause-covered c =
-    subst (λ rs. AreKept rs c.put_in.new.self) c.deref.ensures.value
-    (c.put_in.ensures.held c.args.list.now.items c.requires.covered
-    (subst (AreSameBut (c.args.place ∷ []) c.args.list.now.items) (sym c.deref.ensures.value)
-    (subst (λ (r : PlainRecord). AreSameBut (c.args.place ∷ []) c.args.list.now.items (slice_set c.args.list.now.items c.args.place r)) (sym c.replace-old.ensures.after)
-    (set_same_but c.args.list.now.items c.args.place c.args.made))))
+returns-then-place-len-clause-covered c = c.replace_in.ensures.covered c.requires.covered
 
 pub returns-clause-covered : goal.returns-clause-covered
 returns-clause-covered c =
