@@ -1,8 +1,6 @@
-use Rattle.std.proofs.Common.{rules, ◌≡◌, ◌∙◌, ◌<◌, ◌≤◌, [], ◌∷◌, length, map, ap, sym, subst}
-use Rattle.std.specs.Prelude.{slice_set}
+use Rattle.std.proofs.Common.{rules, ◌≡◌, ◌∙◌, ◌<◌, ◌≤◌, List, [], ◌∷◌, length, map, ap, sym, subst}
 use Rattle.record_theory.specs.Record.{PlainRecord, instance_number}
-use Rattle.rerun_records.specs.Covers.{AreKept, AreSameBut}
-use Rattle.rerun_records.proofs.Covering.{set_same_but}
+use Rattle.rerun_records.specs.Covers.{AreKept}
 use Rattle.rerun_records.proofs.Passing.{appended_kept}
 use Rattle.rerun_records.proofs.Instances.{set_is_put, set_numbers, push_is_put, numbers_behind}
 use Rattle.rerun_records.proofs.listing.put_at.Goals as goal

@@ -19,15 +19,15 @@ pub returns-then-is_held-clause-covered : goal.returns-then-is_held-clause-cover
 returns-then-is_held-clause-covered c kept =
     let records = c.args.list.now.items in
     let rows : (old : PlainRecord) → slice_get records c.args.place ≡ Some old → (h : List Span) → every (is_covered_by h) old.reads ≡ true → every (is_covered_by h) c.args.made.reads ≡ true =
-    λ old at. c.has_rows_of-is_held.ensures.has (search rules) old (c.record_at.ensures.at ∙ at) in
+    λ old at. c.has_rows_of-is_held.ensures.has (search rules) old (c.record_at.ensures.at ∙ ap (λ (rs : List PlainRecord). slice_get rs c.args.place) c.deref.ensures.value ∙ at) in
     subst (λ (r : PlainRecord). AreKept (slice_set records c.args.place r) c.args.covers.now) (sym c.replace-old.ensures.after)
     (set_kept records c.args.place c.args.made rows c.args.covers.now kept)
 
 pub returns-clause-covered : goal.returns-clause-covered
 returns-clause-covered c kept =
     let records = c.args.list.now.items in
-    subst (λ rs. AreKept rs c.put_in.new.self) c.deref.ensures.value
+    subst (λ rs. AreKept rs c.put_in.new.self) c.deref-2.ensures.value
     (c.put_in.ensures.held records kept
-    (subst (AreSameBut (c.args.place ∷ []) records) (sym c.deref.ensures.value)
+    (subst (AreSameBut (c.args.place ∷ []) records) (sym c.deref-2.ensures.value)
     (subst (λ (r : PlainRecord). AreSameBut (c.args.place ∷ []) records (slice_set records c.args.place r)) (sym c.replace-old.ensures.after)
     (set_same_but records c.args.place c.args.made))))
