@@ -9,7 +9,7 @@ TOP = os.path.dirname(os.path.dirname(os.path.realpath(__file__)))
 WIDEST, MOST = 160, 7
 # Libraries that lead down to others along more ways than this, all together, are too dear to sum for one build of the kit. Crates of
 # tests don't count: as programs they'd be summed by none, but the build in use sums each once, and takes most of a minute more for each.
-WAYS = 557_000
+WAYS = 690_000
 OPEN, CLOSE = "([{<", ")]}>"
 
 

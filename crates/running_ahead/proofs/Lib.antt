@@ -8,12 +8,7 @@ pub mod Stacked
 pub mod HalvesAtOnce
 pub mod Levels
 pub mod Stepping
-pub mod LeafSteps
-pub mod LeafChains
-pub mod AnsweredChains
 pub mod RecordedTurns
 pub mod HalvesRecorded
 pub mod PartsRecorded
-pub mod HalfSettled
-pub mod Kept
 pub mod OwnAhead

@@ -3,4 +3,3 @@ pub mod Chains
 pub mod Stepped
 pub mod Leaves
 pub mod RecordedHalves
-pub mod AnsweredChains

@@ -37,7 +37,7 @@ use view_pool::View;
 pub(crate) const MOST: u32 = 256;
 
 /// So few iterations are done in one go whether spawned children are called or not: to have another worker take some of them takes longer.
-pub(crate) const SMALL: u32 = 32;
+pub const SMALL: u32 = 32;
 
 // So many more children an instance has room for: two halves, or its iterations.
 const CHILDREN: usize = 1024;
@@ -247,7 +247,7 @@ fn goes_on(
 }
 
 /// How often so many iterations are halved at most; none where that is more often than is allowed here.
-pub(crate) fn levels(count: u32, grain: u32, halvings: u32) -> Option<usize>
+pub fn levels(count: u32, grain: u32, halvings: u32) -> Option<usize>
     ensures reached { IfSome result (λ n. count ≤ reach n grain) }
     ensures few { IfSome result (λ n. n ≤ 8) }
     ensures halved { IfSome result (λ n. n ≤ halvings) }
@@ -266,7 +266,7 @@ pub(crate) fn levels(count: u32, grain: u32, halvings: u32) -> Option<usize>
 }
 
 /// So many copies of an instance's slots; none where memory is refused.
-pub(crate) fn copies(
+pub fn copies(
     top: &Activation,
     spares: &mut Spares,
     alloc: Global,
@@ -291,7 +291,7 @@ pub(crate) fn copies(
 }
 
 /// Keeps copies of slots that nobody needed.
-pub(crate) fn keep_all(spares: &mut Spares, alloc: Global, copies: Vec<Vec<Slot>>) {
+pub fn keep_all(spares: &mut Spares, alloc: Global, copies: Vec<Vec<Slot>>) {
     for slots in copies {
         keep(spares, alloc, slots);
     }
@@ -303,7 +303,7 @@ fn keep(spares: &mut Spares, alloc: Global, slots: Vec<Slot>) {
 }
 
 /// Both halves of an instance are over, the second of which took its slots.
-pub(crate) fn end_half(top: &mut Activation, spares: &mut Spares, alloc: Global)
+pub fn end_half(top: &mut Activation, spares: &mut Spares, alloc: Global)
     requires children { top.old.children + 2 < 2 ^ 64 }
     ensures ended { top.new ≡ halved_to top.old }
 {
@@ -313,7 +313,7 @@ pub(crate) fn end_half(top: &mut Activation, spares: &mut Spares, alloc: Global)
 }
 
 /// Goes iteration by iteration, of which so many are over or have begun.
-pub(crate) fn turn_to(top: &mut Activation, part: Part, done: u32)
+pub fn turn_to(top: &mut Activation, part: Part, done: u32)
     requires fits { ShareFits part.site part.share }
     requires some { done ≤ part.share.count }
     requires children { top.old.children + done < 2 ^ 64 }

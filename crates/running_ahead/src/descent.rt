@@ -20,7 +20,7 @@ use std::mem;
 
 /// A part of a loop: that share of its iterations, which may be halved so many times more; and the loop's grain.
 #[derive(Clone, Copy)]
-pub(crate) struct Part {
+pub struct Part {
     pub site: Loop,
     pub halvings: u32,
     pub share: Share,
@@ -29,14 +29,14 @@ pub(crate) struct Part {
 
 /// A part of a loop of which so many iterations are over.
 #[derive(Clone, Copy)]
-pub(crate) struct Begun {
+pub struct Begun {
     pub part: Part,
     pub done: u32,
 }
 
 /// A part of a loop, with copies of the loop's slots for the parts that it may be halved into.
 #[derive(Drop)]
-pub(crate) struct Ready {
+pub struct Ready {
     pub part: Part,
     pub copies: Vec<Vec<Slot>>,
 }
@@ -199,7 +199,7 @@ fn into_second(
 
 /// Puts the parts of a part on the strand, each with one of the copies of its slots, down to the one that goes iteration by
 /// iteration and has the one behind so many. There is room for them.
-pub(crate) fn descend(
+pub fn descend(
     path: &mut Vec<usize>,
     below: &mut Vec<Activation>,
     top: &mut Activation,

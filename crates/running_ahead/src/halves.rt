@@ -152,7 +152,7 @@ fn first_ahead<V: View>(
 
 /// Whether so many iterations are halved.
 #[inline(always)]
-pub(crate) fn is_halved<V: View>(
+pub fn is_halved<V: View>(
     machine: &Machine<V>,
     setting: Setting<'_>,
     site: Loop,

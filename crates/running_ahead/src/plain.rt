@@ -6,7 +6,7 @@ use linked_program::checked::Checked;
 use linked_program::code::{CodeBlock, Instruction, Operation};
 
 /// Whether iterations of that procedure may be recorded in one go: it is marked memo, and does all of its statements by itself.
-pub(crate) fn are_recorded(program: &Checked, procedure: usize) -> bool
+pub fn are_recorded(program: &Checked, procedure: usize) -> bool
     ensures memo { result ≡ true → memo_of program.now.codes procedure ≡ true }
 {
     program.is_memo(procedure) && is_plain(program, procedure)

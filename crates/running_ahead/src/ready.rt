@@ -24,7 +24,7 @@ use view_pool::View;
 
 /// Whether so many iterations of the topmost instance's half may be recorded in one go: they are few, of a procedure that is marked memo and
 /// does its statements by itself, and there is room for them.
-pub(crate) fn may_record<V: View>(
+pub fn may_record<V: View>(
     machine: &Machine<V>,
     program: &Checked,
     code: LoopCode<'_>,
@@ -61,7 +61,7 @@ pub fn records_halves<V: View>(machine: &Machine<V>, program: &Checked) -> bool 
 
 /// Has room for an argument, and an instance ready that has so many slots; not where memory is refused.
 #[inline(always)]
-pub(crate) fn make_ready<V: View>(machine: &mut Machine<V>, alloc: Global, size: usize) -> bool
+pub fn make_ready<V: View>(machine: &mut Machine<V>, alloc: Global, size: usize) -> bool
     ensures same { machine.new ≡ machine.old }
 {
     if machine.arguments.reserve(1).is_err() {
@@ -89,7 +89,7 @@ fn make_child(spares: &mut Spares, alloc: Global, size: usize) -> bool {
 
 /// After so many of a loop's iterations, the argument of the last one. There is room for it: else the strand couldn't go on.
 #[inline(always)]
-pub(crate) fn put_last(
+pub fn put_last(
     arguments: &mut Vec<i64>,
     site: Loop,
     share: Share,

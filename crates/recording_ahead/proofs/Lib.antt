@@ -1,0 +1,5 @@
+pub mod LeafSteps
+pub mod LeafChains
+pub mod AnsweredChains
+pub mod HalfSettled
+pub mod Kept

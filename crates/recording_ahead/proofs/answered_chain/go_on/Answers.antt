@@ -1,0 +1,27 @@
+use Rattle.std.proofs.Common.{◌-◌, ◌∷◌, [], Bool, subst, ap}
+use Rattle.meaning.specs.Elision.{depth_limit}
+use Rattle.rerun_records.specs.declared.batch.Batch.{Batch}
+use Rattle.rerun_records.specs.Sums.{IsBatchFor}
+use Rattle.positions.specs.Strands.{PlainStrand}
+use Rattle.recording_ahead.specs.AnsweredChains.{answered}
+use Rattle.own_statements.specs.Leaves.{plain_leaf}
+use Rattle.recording_ahead.proofs.answered_chain.go_on.Goals as goal
+
+pub take_on-requires-clause-batch : goal.take_on-requires-clause-batch
+take_on-requires-clause-batch g c κs within =
+    let S = c.args.setting in
+    let f = plain_leaf c.args.leaf in
+    let b : Batch = c.in-Some.batch in
+    subst (λ (k : Bool). IsBatchFor k S.program.now S.tables.now.tables (depth_limit - f.left) S.records.now f.callee (f.number ∷ []) 0 c.args.ahead.most b.count b.sum.now)
+    c.keeps_reads-keeps.ensures.keeps c.in-Some.ensures.batch
+
+pub returns-in-Ok-clause-passed : goal.returns-in-Ok-clause-passed
+returns-in-Ok-clause-passed g c = answered c.in-Ok.ensures.taken
+
+pub returns-in-Err-clause-turn : goal.returns-in-Err-clause-turn
+returns-in-Err-clause-turn g c = record {
+  lower = ap (λ (s : PlainStrand). s.lower) c.take_on.ensures.others;
+  kinds = c.take_on.ensures.kinds;
+  opened = c.take_on.ensures.opened;
+  phase = ap (λ (s : PlainStrand). s.phase) c.take_on.ensures.others;
+}
