@@ -76,8 +76,89 @@ pub(crate) fn chain_through<V: View>(
     ensures values { HaveValues setting.entry.program.now.kinds machine.old.tally.made
         → HaveValues setting.entry.program.now.kinds machine.new.tally.made }
 {
+    // One layer serves for all that are recorded: to make one anew takes a third as long as a record.
+    let own = match open_own(machine, alloc, setting, kit) {
+        Ok(own) => own,
+        Err(kit) => return Ok((0, kit)),
+    };
+    let came = chain_in(machine, alloc, setting, code, stretch, own);
+    match came {
+        Ok((done, own)) => {
+            let kit = close_own(machine, own);
+            Ok((done, kit))
+        }
+        Err(Some(own)) => {
+            let back = close_own(machine, own);
+            Err(Some(back))
+        }
+        Err(None) => Err(None),
+    }
+}
+
+/// A layer of that kit for records, in which nothing was noted yet. Where memory is refused, the kit is handed back.
+#[inline(always)]
+fn open_own<V: View>(
+    machine: &mut Machine<V>,
+    alloc: Global,
+    setting: Setting<'_>,
+    kit: Kit<V>,
+) -> Result<Layer<V>, Kit<V>>
+    requires kit { kit ≡ setting.program.now.kinds }
+    ensures same { machine.new ≡ machine.old }
+    ensures blank { IfOk result (λ own. own
+        ≡ blank true setting.entry.program.now.kinds (length setting.entry.program.now.codes)) }
+    ensures kit_back { IfErr result (λ k. k ≡ setting.entry.program.now.kinds) }
+{
+    own_layer(&mut machine.lists, alloc, setting.program, kit)
+}
+
+/// The kit of that layer, whose lists the strand keeps.
+#[inline(always)]
+fn close_own<V: View>(machine: &mut Machine<V>, own: Layer<V>) -> Kit<V>
+    ensures same { machine.new ≡ machine.old }
+    ensures kit { result ≡ own.kinds }
+{
+    own.close_in(&mut machine.lists)
+}
+
+/// The same over such a layer, which is handed back. The layer that was to become a record isn't.
+#[inline(always)]
+fn chain_in<V: View>(
+    machine: &mut Machine<V>,
+    alloc: Global,
+    setting: Setting<'_>,
+    code: LoopCode<'_>,
+    stretch: Stretch,
+    own: Layer<V>,
+) -> Result<(u32, Layer<V>), Option<Layer<V>>>
+    requires fits { ShareFits stretch.site stretch.share }
+    requires some { stretch.most ≤ stretch.share.count }
+    requires found { loop_of code ≡ loop_at setting.program.now.codes machine.old.top.procedure stretch.site }
+    requires memo { memo_of setting.program.now.codes code.callee ≡ true }
+    requires deep { (machine.old.top.left == 0) ≡ false }
+    requires counted { IsCounted machine.old.top.slots code.variable (map plain code.arguments.now) }
+    requires blank { own ≡ blank true setting.program.now.kinds (length setting.program.now.codes) }
+    requires kinds { machine.old.layer.kinds ≡ setting.program.now.kinds }
+    requires monoids { All IsMonoid setting.program.now.kinds }
+    requires answers { HaveValues setting.program.now.kinds setting.records.now }
+    ensures records { IfOk result (λ done. AreRecorded (lent setting.entry) stretch.site
+        machine.old.top.procedure machine.old.top.slots machine.old.top.left stretch.share.first
+        (gathered_of machine.old machine.old.arguments) done.0
+        (gathered_of machine.new (arguments_then done.0 stretch.site stretch.share machine.old.arguments))) }
+    ensures others { OnOk result
+        (machine.new ≡ record machine.old { layer = machine.new.layer; tally = machine.new.tally }) }
+    ensures opened { OnOk result (machine.new.tally.opened ≡ machine.old.tally.opened) }
+    ensures some { IfOk result (λ done. done.0 ≤ stretch.most) }
+    ensures own_kinds { IfOk result (λ done. done.1.kinds ≡ setting.entry.program.now.kinds) }
+    ensures own_back { IfErr result (λ e. IfSome e (λ o. o.kinds ≡ setting.entry.program.now.kinds)) }
+    ensures turn { IfErr result (λ e. OnSome e (IsRefusedTurn machine.old machine.new)) }
+    ensures leaf { IfErr result (λ e. IfNone e (IsRefusedLeaf machine.old machine.new)) }
+    ensures kinds { machine.new.layer.kinds ≡ machine.old.layer.kinds }
+    ensures values { HaveValues setting.entry.program.now.kinds machine.old.tally.made
+        → HaveValues setting.entry.program.now.kinds machine.new.tally.made }
+{
     if !setting.records.is_empty() {
-        return answered_chain(machine, alloc, setting, code, stretch, kit);
+        return answered_chain(machine, alloc, setting, code, stretch, own);
     }
     // A first run's loop has no more in it than it needs.
     let callee = code.callee;
@@ -91,12 +172,8 @@ pub(crate) fn chain_through<V: View>(
         number: number_of(stretch.site, stretch.share),
         body,
     };
-    let own = match own_layer(&mut machine.lists, alloc, setting.program, kit) {
-        Ok(own) => own,
-        Err(kit) => return Ok((0, kit)),
-    };
     match record_chain(machine, setting, first, stretch.most, own) {
-        Ok((count, _, own)) => Ok((count, own.close_in(&mut machine.lists))),
+        Ok((count, _, back)) => Ok((count, back)),
         Err(_) => Err(None),
     }
 }
@@ -109,15 +186,15 @@ fn answered_chain<V: View>(
     setting: Setting<'_>,
     code: LoopCode<'_>,
     stretch: Stretch,
-    kit: Kit<V>,
-) -> Result<(u32, Kit<V>), Option<Kit<V>>>
+    own: Layer<V>,
+) -> Result<(u32, Layer<V>), Option<Layer<V>>>
     requires fits { ShareFits stretch.site stretch.share }
     requires some { stretch.most ≤ stretch.share.count }
     requires found { loop_of code ≡ loop_at setting.program.now.codes machine.old.top.procedure stretch.site }
     requires memo { memo_of setting.program.now.codes code.callee ≡ true }
     requires deep { (machine.old.top.left == 0) ≡ false }
     requires counted { IsCounted machine.old.top.slots code.variable (map plain code.arguments.now) }
-    requires kit { kit ≡ setting.program.now.kinds }
+    requires blank { own ≡ blank true setting.program.now.kinds (length setting.program.now.codes) }
     requires kinds { machine.old.layer.kinds ≡ setting.program.now.kinds }
     requires monoids { All IsMonoid setting.program.now.kinds }
     requires answers { HaveValues setting.program.now.kinds setting.records.now }
@@ -129,8 +206,8 @@ fn answered_chain<V: View>(
         (machine.new ≡ record machine.old { layer = machine.new.layer; tally = machine.new.tally }) }
     ensures opened { OnOk result (machine.new.tally.opened ≡ machine.old.tally.opened) }
     ensures some { IfOk result (λ done. done.0 ≤ stretch.most) }
-    ensures kit { IfOk result (λ done. done.1 ≡ setting.entry.program.now.kinds) }
-    ensures kit_back { IfErr result (λ e. IfSome e (λ k. k ≡ setting.entry.program.now.kinds)) }
+    ensures own_kinds { IfOk result (λ done. done.1.kinds ≡ setting.entry.program.now.kinds) }
+    ensures own_back { IfErr result (λ e. IfSome e (λ o. o.kinds ≡ setting.entry.program.now.kinds)) }
     ensures turn { IfErr result (λ e. OnSome e (IsRefusedTurn machine.old machine.new)) }
     ensures leaf { IfErr result (λ e. IfNone e (IsRefusedLeaf machine.old machine.new)) }
     ensures kinds { machine.new.layer.kinds ≡ machine.old.layer.kinds }
@@ -141,16 +218,12 @@ fn answered_chain<V: View>(
     let size = setting.program.slots(callee);
     let left = machine.top.left() - 1;
     let body = instructions(setting.program, callee, 0, 0);
-    // One layer serves for all that are recorded: to make one anew takes a third as long as a record.
-    let mut own = match own_layer(&mut machine.lists, alloc, setting.program, kit) {
-        Ok(own) => own,
-        Err(kit) => return Ok((0, kit)),
-    };
+    let mut own = own;
     let mut done = 0;
     let mut near = stretch.share.first as usize;
     for _ in 0..stretch.most {
         if done == stretch.most {
-            return Ok((done, own.close_in(&mut machine.lists)));
+            return Ok((done, own));
         }
         let leaf = Leaf {
             callee,
@@ -167,16 +240,23 @@ fn answered_chain<V: View>(
             Ok((passed, is_blank, back)) => {
                 own = back;
                 done += passed.count;
-                if passed.count == 0 || !is_blank {
-                    return Ok((done, own.close_in(&mut machine.lists)));
+                if stops(passed.count, is_blank) {
+                    return Ok((done, own));
                 }
                 near = passed.near;
             }
-            Err(Some(back)) => return Err(Some(back.close_in(&mut machine.lists))),
-            Err(None) => return Err(None),
+            Err(refused) => return Err(refused),
         }
     }
-    Ok((done, own.close_in(&mut machine.lists)))
+    Ok((done, own))
+}
+
+/// Whether it doesn't go on behind so many iterations that are over: there are none, or something is noted in the layer.
+#[inline(always)]
+fn stops(count: u32, is_blank: bool) -> bool
+    ensures blank { result ≡ false → is_blank ≡ true }
+{
+    count == 0 || !is_blank
 }
 
 /// The iterations from that one on that records answer together, or that one alone, which is recorded. How many are over, whether nothing is

@@ -15,7 +15,7 @@ loop-init g c = record {
   few = (let least : 0 ≤ c.args.stretch.most = omega arith in least);
   others = refl;
   opened = refl;
-  blank = search rules;
+  blank = c.requires.blank;
   kinds = refl;
   values = λ h. h;
 }
@@ -44,13 +44,13 @@ loop-preserved g c =
       few = omega (arith, fits, room);
       others = c.in-Ok.ensures.others ∙ ap (λ (z : PlainStrand). record z { layer = after.layer; tally = after.tally }) c.loop.invariant.others;
       opened = passed_opened S (leaf_of S x.site j m.top.left (x.share.first + d)) k before.layer after.layer before.tally after.tally passed ∙ c.loop.invariant.opened;
-      blank = search rules;
+      blank = c.in-Ok.ensures.blank (c.stops.ensures.blank c.if-stops.false);
       kinds = c.go_on.ensures.kinds ∙ c.loop.invariant.kinds;
       values = λ h. c.go_on.ensures.values (c.loop.invariant.values h);
     }
 
-pub returns-then-passed-eq0-clause-records : goal.returns-then-passed-eq0-clause-records
-returns-then-passed-eq0-clause-records g c =
+pub returns-then-stops-clause-records : goal.returns-then-stops-clause-records
+returns-then-stops-clause-records g c =
     let S = lent c.args.setting in
     let x = c.args.stretch in
     let m : PlainStrand = c.args.machine.now in
@@ -68,8 +68,8 @@ returns-then-passed-eq0-clause-records g c =
     passed_on S x.site j m.top.procedure m.top.slots m.top.left c.requires.found c.requires.memo c.requires.deep c.requires.counted
     x.share m.arguments (gathered_of m m.arguments) d k before.layer after.layer before.tally after.tally c.loop.invariant.records passed
 
-pub returns-then-passed-eq0-clause-opened : goal.returns-then-passed-eq0-clause-opened
-returns-then-passed-eq0-clause-opened g c =
+pub returns-then-stops-clause-opened : goal.returns-then-stops-clause-opened
+returns-then-stops-clause-opened g c =
     let S = lent c.args.setting in
     let x = c.args.stretch in
     let m : PlainStrand = c.args.machine.now in
@@ -86,11 +86,11 @@ returns-then-passed-eq0-clause-opened g c =
     passed_at S x.site j m.top.left (x.share.first + d) c.slots-size.result c.left-left.result n k before.layer after.layer before.tally after.tally c.slots-size.ensures.slots left number c.in-Ok.ensures.passed in
     passed_opened S (leaf_of S x.site j m.top.left (x.share.first + d)) k before.layer after.layer before.tally after.tally passed ∙ c.loop.invariant.opened
 
-pub returns-then-passed-eq0-clause-some : goal.returns-then-passed-eq0-clause-some
-returns-then-passed-eq0-clause-some g c =
+pub returns-then-stops-clause-some : goal.returns-then-stops-clause-some
+returns-then-stops-clause-some g c =
     let fits : c.in-Ok.passed.count ≤ c.args.stretch.most - c.loop.done = c.in-Ok.ensures.few in
     let room : c.loop.done ≤ c.args.stretch.most = c.loop.invariant.few in
     omega (arith, fits, room)
 
-pub returns-then-passed-eq0-clause-values : goal.returns-then-passed-eq0-clause-values
-returns-then-passed-eq0-clause-values g c = λ h. c.go_on.ensures.values (c.loop.invariant.values h)
+pub returns-then-stops-clause-values : goal.returns-then-stops-clause-values
+returns-then-stops-clause-values g c = λ h. c.go_on.ensures.values (c.loop.invariant.values h)
