@@ -1,14 +1,20 @@
 #!/usr/bin/env python3
 """Prints how long runs take by 1, 2 and 4 workers, and which share that is of what the machine gives.
 
-usage: speed.py [--rounds N] [PROGRAM]      by default fifteen rounds of ./cilkreport as it is built; wants a quiet machine
+usage: speed.py [--rounds N] [--only WORD] [PROGRAM]      by default 60 rounds of each report by ./cilkreport as it is built; wants a quiet
+                                                          machine; with WORD only the reports that have it in their names
 
-Milliseconds by the clock: the least of so many sessions with one run, taken in turn, less that of the session without it. What the
-machine gives is how many times as much four sessions of one worker each do at once as one of them does: less than 4 where
-processors share what they have, or others work. The share is how many times as fast four workers are as one, of that.
+Milliseconds by the clock. In each round each way takes its turn, and so does the session without the run, which is taken off at once. What
+the machine gives is how many times as much four sessions of one worker each do at once as one of them does: less than 4 where processors
+share what they have, or others work. The share is how many times as fast four workers are as one, of that: so it says of one round how long
+four sessions at once took, beside four times what four workers took in the next moment.
+
+Each figure is the middle of the rounds' figures; the quartiles of the shares stand behind them. The least of each way would be of moments
+minutes apart: where a machine is twice as fast in one second as in the next, the ratio of two of these says nothing.
 """
 import argparse
 import os
+import statistics
 import subprocess
 import tempfile
 import time
@@ -64,34 +70,47 @@ def took(program, room, workers, sessions, script):
 
 
 def spent(program, room, rounds):
-    """The least that a run took, by how many workers, and of so many sessions of one worker at once."""
+    """What a run took in each round, by how many workers in how many sessions at once. The ways take their turns forth and back."""
     ways = [(1, 1), (2, 1), (4, 1), (1, AT_ONCE)]
-    least = {}
-    for _ in range(rounds):
-        for way in ways:
-            for script in ("once", "nothing"):
-                key = way, script
-                least[key] = min(took(program, room, *way, script), least.get(key, float("inf")))
-    return [least[way, "once"] - least[way, "nothing"] for way in ways]
+    times = {way: [] for way in ways}
+    for turn in range(rounds):
+        for way in ways[:: -1 if turn % 2 else 1]:
+            once, nothing = (took(program, room, *way, script) for script in ("once", "nothing"))
+            times[way].append(once - nothing)
+    return [times[way] for way in ways]
+
+
+def middle(figures):
+    return statistics.median(figures)
+
+
+def line(title, one, two, four, at_once):
+    """A line of the table, of what the rounds took."""
+    faster = middle([alone / together for alone, together in zip(one, four)])
+    gives = middle([AT_ONCE * alone / together for alone, together in zip(one, at_once)])
+    low, share, high = statistics.quantiles([apart / AT_ONCE / together for apart, together in zip(at_once, four)], n=4)
+    times = " | ".join(f"{middle(way):.1f}" for way in (one, two, four))
+    return f"| {title} | {times} | {faster:.2f} | {gives:.2f} | {share:.2f} | {low:.2f} to {high:.2f} |"
 
 
 def main():
     asked = argparse.ArgumentParser(description=__doc__, formatter_class=argparse.RawDescriptionHelpFormatter)
-    asked.add_argument("--rounds", type=int, default=15)
+    asked.add_argument("--rounds", type=int, default=60)
+    asked.add_argument("--only", default="")
     asked.add_argument("program", nargs="?", default=f"{TOP}/crates/cilkreport/out/cilkreport")
     words = asked.parse_args()
     program = os.path.realpath(words.program)
-    print("| ms | 1 worker | 2 workers | 4 workers | 1 to 4 | the machine gives | share |\n|---|---|---|---|---|---|---|")
+    print("| ms | 1 worker | 2 workers | 4 workers | 1 to 4 | the machine gives | share | its quartiles |\n|---|---|---|---|---|---|---|---|")
     with tempfile.TemporaryDirectory() as room:
         for name, text in (("tables", ""), ("nothing", ""), ("once", "run\n")):
             with open(f"{room}/{name}", "w", encoding="ascii") as file:
                 file.write(text)
         for title, report in REPORTS.items():
+            if words.only not in title:
+                continue
             with open(f"{room}/report", "w", encoding="ascii") as file:
                 file.write(report)
-            one, two, four, at_once = spent(program, room, words.rounds)
-            gives = AT_ONCE * one / at_once
-            print(f"| {title} | {one:.1f} | {two:.1f} | {four:.1f} | {one / four:.2f} | {gives:.2f} | {one / four / gives:.2f} |", flush=True)
+            print(line(title, *spent(program, room, words.rounds)), flush=True)
 
 
 if __name__ == "__main__":
