@@ -29,9 +29,13 @@ const GOES: usize = 16;
 
 const TIMES: usize = 8;
 
+/// How many goes it has where no record may answer the run: so many continuations may lie in its deque then, and the others find something
+/// to steal as soon as they come.
+const FIRST: usize = 4;
+
 impl<J: Run + Ledger + Stocked + Send, D: Deques, V: View> Floor<'_, J, D, V> {
-    /// The first worker comes. Where records may answer the run it goes on for a while before the others are started, unless somebody
-    /// watches who may hold it for them, or edits have made many records stale. What this takes of the stack is free again for what comes behind it.
+    /// The first worker comes, and goes on for a while before the others are started, unless somebody watches who may hold it for them, or
+    /// edits have made many records stale. What this takes of the stack is free again for what comes behind it.
     #[inline(never)]
     pub(crate) fn begin<R: Wait, G: Gate>(
         &self,
@@ -43,7 +47,7 @@ impl<J: Run + Ledger + Stocked + Send, D: Deques, V: View> Floor<'_, J, D, V> {
         ensures here { IsAt seat.new.here result.1 }
     {
         let (number, found) = self.come(rt, seat);
-        if !self.has_records || gate.watches_updates() || self.scene.has_many_due() {
+        if gate.watches_updates() || self.scene.has_many_due() {
             return (number, found);
         }
         match found {
@@ -81,7 +85,7 @@ impl<J: Run + Ledger + Stocked + Send, D: Deques, V: View> Floor<'_, J, D, V> {
         self.find(rt, number, seat, gate)
     }
 
-    /// As many times as it may go on alone, or one where many records are stale. Whether the strand goes on.
+    /// As many times as it may go on alone, or one where no record may answer the run or many are stale. Whether the strand goes on.
     fn go_on<R: Wait, G: Gate>(
         &self,
         rt: &R,
@@ -99,7 +103,7 @@ impl<J: Run + Ledger + Stocked + Send, D: Deques, V: View> Floor<'_, J, D, V> {
         if !self.go_far(rt, number, seat, strand, supply, gate) {
             return false;
         }
-        if self.scene.seems_stale() {
+        if !self.has_records || self.scene.seems_stale() {
             return true;
         }
         for _ in 1..TIMES {
@@ -125,7 +129,8 @@ impl<J: Run + Ledger + Stocked + Send, D: Deques, V: View> Floor<'_, J, D, V> {
         ensures bound { result ≡ true → IsBoundTo seat.new.here (spot_of strand.new.strand) }
         ensures kits { kits_of strand.new.strand + supply.new.free ≡ most }
     {
-        for _ in 0..GOES {
+        let goes = if self.has_records { GOES } else { FIRST };
+        for _ in 0..goes {
             if !self.step(rt, number, seat, strand, supply, gate) {
                 return false;
             }

@@ -27,6 +27,8 @@ pub(crate) struct Bell {
     has_rung: AtomicBool,
     is_over: AtomicU64,
     nappers: AtomicU64,
+    // How many threads have nothing more to do with the run.
+    parted: AtomicU64,
 }
 
 /// A worker that comes to the bell, and how many looks were in vain since it had a strand.
@@ -45,6 +47,7 @@ impl Bell {
             has_rung: AtomicBool::new(false),
             is_over: AtomicU64::new(0),
             nappers: AtomicU64::new(0),
+            parted: AtomicU64::new(0),
         }
     }
 
@@ -90,6 +93,23 @@ impl Bell {
     pub(crate) fn end(&self) {
         if self.is_over.swap(1, Ordering::SeqCst) == 0 && self.nappers.load(Ordering::SeqCst) != 0 {
             self.is_over.wake_all();
+        }
+    }
+
+    /// A thread has nothing more to do with the run.
+    pub(crate) fn part(&self) {
+        self.parted.fetch_add(1, Ordering::SeqCst);
+    }
+
+    /// Waits until so many threads have nothing more to do with the run, for a short while: who sleeps until the last one has is woken late.
+    /// At the end it lets them go their last steps.
+    pub(crate) fn await_parted(&self, threads: u64) {
+        for _ in 0..LISTENS {
+            let have_parted = self.parted.load(Ordering::SeqCst) >= threads;
+            thread::yield_now();
+            if have_parted {
+                return;
+            }
         }
     }
 }

@@ -7,6 +7,7 @@ use crate::floor::Floor;
 use crate::found::Found;
 use crate::gate::Gate;
 use right_strands::run::Run;
+use std::alloc::{AllocError, Global};
 use std::sync::Wait;
 use std::sync::ledger::Ledger;
 use stealing_deques::Deques;
@@ -34,8 +35,61 @@ where
     live(rt, floor, number, seat, found, gate)
 }
 
+/// The life of a worker in a thread of its own, whose seat ends with it.
+pub(crate) fn serve<J, D, V, R, G>(rt: &R, floor: &Floor<'_, J, D, V>, seat: Seat<J, D>, gate: &G)
+where
+    J: Run + Ledger + Stocked + Send,
+    D: Deques,
+    V: View,
+    R: Wait,
+    G: Gate,
+{
+    // Want of memory shows where the worker needs some.
+    let _ = use_memory(floor.alloc);
+    let _ = work(rt, floor, seat, gate);
+    floor.bell().part();
+}
+
+/// Takes a little memory and gives it back. Where a thread first takes some, the system makes room for what it will take, which lasts as long as
+/// several steals: a worker that came to that under the lock would hold up the others.
+fn use_memory(alloc: Global) -> Result<(), AllocError> {
+    let mut list: Vec<u64> = Vec::new(alloc);
+    reserve_one(&mut list)
+}
+
+/// Room for one number. It is no part of who lets the list go: the compiler would spare both.
+#[inline(never)]
+fn reserve_one(list: &mut Vec<u64>) -> Result<(), AllocError> {
+    list.reserve(1)
+}
+
+/// The life of the first worker, from what it has found on, beside so many threads.
+pub(crate) fn live_beside_threads<J, D, V, R, G>(
+    rt: &R,
+    floor: &Floor<'_, J, D, V>,
+    number: usize,
+    seat: Seat<J, D>,
+    found: Found<J, V>,
+    threads: u64,
+    gate: &G,
+) -> Seat<J, D>
+where
+    J: Run + Ledger + Stocked + Send,
+    D: Deques,
+    V: View,
+    R: Wait,
+    G: Gate,
+    requires left { is_left found ≡ true → 0 < seat.left }
+    requires here { IsAt seat.here found }
+    ensures left { 0 < result.left }
+{
+    let seat = live(rt, floor, number, seat, found, gate);
+    floor.bell().await_parted(threads);
+    seat
+}
+
 /// The life of a worker that has come, from what it has found on.
-pub(crate) fn live<J, D, V, R, G>(
+fn live<J, D, V, R, G>(
     rt: &R,
     floor: &Floor<'_, J, D, V>,
     number: usize,

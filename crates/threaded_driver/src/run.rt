@@ -23,7 +23,7 @@ ghost use Rattle.std.specs.Thread.{IsSend, IsSync};
 use crate::floor::Floor;
 use crate::found::Found;
 use crate::gate::Gate;
-use crate::life::{live, work};
+use crate::life::{live_beside_threads, serve, work};
 use input_tables::Tables;
 use kept_session::Session;
 use linked_program::checked::Checked;
@@ -419,13 +419,12 @@ where
                 × (is_left found ≡ true → 0 < seat.left) × IsAt seat.here found }
             ensures { 0 < result.left }
         {
+            let threads = others.len() as u64;
             for other in others {
                 // A seat ends where its worker has left it: a thread that handed it back would have to send it.
-                let _ = scope.spawn(move || {
-                    let _ = work(rt, floor, other, gate);
-                });
+                let _ = scope.spawn(move || serve(rt, floor, other, gate));
             }
-            live(rt, floor, number, seat, found, gate)
+            live_beside_threads(rt, floor, number, seat, found, threads, gate)
         },
     )
 }
