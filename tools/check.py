@@ -101,10 +101,15 @@ def take(folder, log):
         crate = rtlib.Crate(f"{folder}/crates/{name}", folder, {})
         made, room = f"{crate.folder}/out/rlib/{name}.rlib", os.path.dirname(crate.rlib)
         if os.path.isdir(made) and not os.path.isdir(room):
+            # (what another one that was ended has left half copied is in nobody's way)
             os.makedirs(os.path.dirname(room), exist_ok=True)
-            shutil.copytree(made, f"{room}.new/{name}.rlib", symlinks=True)
-            os.rename(f"{room}.new", room)
-            print(f"took the library {name}", flush=True)
+            copied = tempfile.mkdtemp(dir=os.path.dirname(room))
+            shutil.copytree(made, f"{copied}/{name}.rlib", symlinks=True)
+            if os.path.isdir(room):
+                shutil.rmtree(copied)
+            else:
+                os.rename(copied, room)
+                print(f"took the library {name}", flush=True)
     return 0
 
 
