@@ -10,19 +10,13 @@ use view_pool::View;
 use worker_seats::kits::Stocked;
 use worker_seats::seat::Seat;
 
-/// How often a loop is halved until a worker does by itself what is left in a half, where records may answer the run: by up to four workers
-/// it has 128 such parts then. To steal half of one, record its share and fold it again takes longer than to do it.
-const PARTED: u32 = 7;
+/// How often a loop is halved until a worker does by itself what is left in a half, where records may answer the run: by up to eight workers
+/// it has 256 such parts then. To steal half of one, record its share and fold it again takes longer than to do it.
+const PARTED: u32 = 8;
 
-/// How often a loop is halved until then, by so many workers: there are 32 parts for each of them.
+/// How often a loop is halved until then, by so many workers: there are 32 parts or more for each of them.
 pub(crate) fn parted_by(workers: usize) -> u32 {
-    if workers <= 4 {
-        PARTED
-    } else if workers <= 8 {
-        PARTED + 1
-    } else {
-        PARTED + 2
-    }
+    if workers <= 8 { PARTED } else { PARTED + 1 }
 }
 
 impl<J: Run + Ledger + Stocked + Send, D: Deques, V: View> Floor<'_, J, D, V> {
