@@ -81,8 +81,7 @@ impl<J: Run + Ledger + Stocked + Send, D: Deques, V: View> Floor<'_, J, D, V> {
             let (share, _) = supply.end();
             return Found::Own(Held::new(strand, share));
         }
-        self.lay(rt, number, seat, strand, supply, gate);
-        self.find(rt, number, seat, gate)
+        self.lay(rt, number, seat, strand, supply, gate)
     }
 
     /// As many times as it may go on alone, or one where no record may answer the run or many are stale. Whether the strand goes on.

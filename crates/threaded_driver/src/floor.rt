@@ -43,7 +43,7 @@ use std::alloc::{AllocError, Global};
 use std::marker::Model;
 use std::sync::atomic::{AtomicBool, Ordering};
 use std::sync::ledger::{Ledger, Share};
-use std::sync::{Mutex, Wait};
+use std::sync::{Mutex, MutexGuard, Wait};
 use stealing_deques::Deques;
 use sync_fold::Mismatch;
 use view_pool::{Kit, Pool, View};
@@ -125,18 +125,13 @@ impl<J: Run + Ledger + Stocked + Send, D: Deques, V: View> Floor<'_, J, D, V> {
         ensures left { is_left result ≡ true → 0 < seat.new.left }
         ensures here { seat.new.here ≡ seat.old.here }
     {
-        let found = self.look(rt, number, seat, gate);
-        match &found {
-            Found::Folded(_) => gate.at(number, Point::Folded),
-            _ => {}
-        }
-        found
+        self.look(self.at_desk(rt), number, seat, gate)
     }
 
-    /// What there is for a worker without a strand. A thief comes to its point while it holds the lock.
-    fn look<R: Wait, G: Gate>(
+    /// What there is for a worker without a strand that has the lock, and gives it up. A thief comes to its point while it holds the lock.
+    fn look<G: Gate>(
         &self,
-        rt: &R,
+        desk: MutexGuard<'_, Desk<J, D, V>>,
         number: usize,
         seat: &mut Seat<J, D>,
         gate: &G,
@@ -144,17 +139,22 @@ impl<J: Run + Ledger + Stocked + Send, D: Deques, V: View> Floor<'_, J, D, V> {
         ensures left { is_left result ≡ true → 0 < seat.new.left }
         ensures here { seat.new.here ≡ seat.old.here }
     {
-        let mut desk = self.at_desk(rt);
+        let mut desk = desk;
         let found = desk.find(self.alloc, &self.scene, number, seat);
         self.note(desk.has_failed());
         match &found {
             Found::Stolen(_) => gate.at(number, Point::Stole),
             _ => {}
         }
+        drop(desk);
+        match &found {
+            Found::Folded(_) => gate.at(number, Point::Folded),
+            _ => {}
+        }
         found
     }
 
-    /// Goes on with a strand until there is nothing more to do with it, and lays it down.
+    /// Goes on with a strand until there is nothing more to do with it, and lays it down; what there is for its worker then.
     pub(crate) fn run_strand<R: Wait, G: Gate>(
         &self,
         rt: &R,
@@ -162,8 +162,9 @@ impl<J: Run + Ledger + Stocked + Send, D: Deques, V: View> Floor<'_, J, D, V> {
         seat: &mut Seat<J, D>,
         held: Held<J, V>,
         gate: &G,
-    )
+    ) -> Found<J, V>
         requires bound { IsBoundTo seat.old.here (spot_of held.strand) }
+        ensures left { is_left result ≡ true → 0 < seat.new.left }
         ensures fresh { seat.new.here ≡ None }
     {
         let (mut strand, share) = held.into_parts();
@@ -175,7 +176,7 @@ impl<J: Run + Ledger + Stocked + Send, D: Deques, V: View> Floor<'_, J, D, V> {
             }
         }
         seat.lend_lists(&mut strand);
-        self.lay(rt, number, seat, strand, supply, gate);
+        self.lay(rt, number, seat, strand, supply, gate)
     }
 
     /// Small steps, and what there is to do where the strand pauses. Whether the strand goes on. It stands in its callers' loops, which
@@ -437,7 +438,7 @@ impl<J: Run + Ledger + Stocked + Send, D: Deques, V: View> Floor<'_, J, D, V> {
     }
 
     /// Lays a strand down, once its worker's deque is empty; the kit that is kept for it goes home. Where it isn't at a point to lie at, for want of
-    /// memory, the run gives up.
+    /// memory, the run gives up. What there is for its worker then is found under the same lock.
     pub(crate) fn lay<R: Wait, G: Gate>(
         &self,
         rt: &R,
@@ -446,8 +447,9 @@ impl<J: Run + Ledger + Stocked + Send, D: Deques, V: View> Floor<'_, J, D, V> {
         strand: RightStrand<J, V>,
         supply: Supply<'_, Desk<J, D, V>, Kit<V>, KitsOf<J>, R>,
         gate: &G,
-    )
+    ) -> Found<J, V>
         requires kits { kits_of strand.strand + supply.free ≡ most }
+        ensures left { is_left result ≡ true → 0 < seat.new.left }
         ensures drained { seat.new.here ≡ None }
     {
         self.drain(rt, seat);
@@ -455,25 +457,33 @@ impl<J: Run + Ledger + Stocked + Send, D: Deques, V: View> Floor<'_, J, D, V> {
         match Piece::lay(&self.scene, strand, &mut supply) {
             Ok(piece) => {
                 let (share, kits) = supply.end();
-                self.put(rt, piece, share, kits);
+                let desk = self.put(rt, piece, share, kits);
                 gate.at(number, Point::Laid);
+                self.look(desk, number, seat, gate)
             }
             Err(_) => {
                 supply.end();
                 self.fail(rt, Failure::NoMemory);
+                self.find(rt, number, seat, gate)
             }
         }
     }
 
-    /// Lays a piece down under the lock, which has that share and so many kits.
-    fn put<R: Wait>(&self, rt: &R, piece: Piece<J, V>, share: Share<KitsOf<J>>, kits: usize)
+    /// Lays a piece down under the lock, which has that share and so many kits; the lock stays with who lays it.
+    fn put<R: Wait>(
+        &self,
+        rt: &R,
+        piece: Piece<J, V>,
+        share: Share<KitsOf<J>>,
+        kits: usize,
+    ) -> MutexGuard<'_, Desk<J, D, V>>
         requires one { share.parts ≡ 1 }
         requires counted { share.amount ≡ kits }
         requires kits { kits ≡ kits_of piece.strand }
     {
         let mut desk = self.at_desk(rt);
         desk.lay(self.alloc, piece, share, kits);
-        self.note(desk.has_failed());
+        desk
     }
 
     /// The run gives up.

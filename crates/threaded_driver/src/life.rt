@@ -108,22 +108,23 @@ where
     ensures left { 0 < result.left }
 {
     let mut seat = seat;
-    match found {
+    let next = match found {
         Found::Left => return seat,
-        Found::Nothing => {}
+        Found::Nothing => Found::Nothing,
         Found::Own(held) | Found::Folded(held) | Found::Stolen(held) => {
-            floor.run_strand(rt, number, &mut seat, held, gate);
+            floor.run_strand(rt, number, &mut seat, held, gate)
         }
-    }
-    seek(rt, floor, number, seat, gate)
+    };
+    seek(rt, floor, number, seat, next, gate)
 }
 
-/// The life of a worker without a strand.
+/// The life of a worker that listens for the bell where it has no strand, from what it has found on.
 fn seek<J, D, V, R, G>(
     rt: &R,
     floor: &Floor<'_, J, D, V>,
     number: usize,
     seat: Seat<J, D>,
+    found: Found<J, V>,
     gate: &G,
 ) -> Seat<J, D>
 where
@@ -132,25 +133,35 @@ where
     V: View,
     R: Wait,
     G: Gate,
+    requires left { is_left found ≡ true → 0 < seat.left }
     requires fresh { seat.here ≡ None }
     ensures left { 0 < result.left }
 {
     let mut seat = seat;
+    let mut found = found;
     let listener = floor.bell().listener();
     listener.listen();
     for _ in rt.forever() {
-        match floor.find(rt, number, &mut seat, gate) {
+        found = match found {
             Found::Left => {
                 floor.bell().end();
                 return seat;
             }
-            Found::Nothing => listener.wait(rt),
+            Found::Nothing => {
+                let next = floor.find(rt, number, &mut seat, gate);
+                match &next {
+                    Found::Nothing => listener.wait(rt),
+                    _ => {}
+                }
+                next
+            }
             Found::Own(held) | Found::Folded(held) | Found::Stolen(held) => {
                 listener.leave();
-                floor.run_strand(rt, number, &mut seat, held, gate);
+                let next = floor.run_strand(rt, number, &mut seat, held, gate);
                 listener.listen();
+                next
             }
-        }
+        };
     }
     unreachable!()
 }
