@@ -1,10 +1,10 @@
 //! What stands under the one lock.
-ghost use Rattle.std.specs.Prelude.{◌≡◌, ◌<◌, ◌==◌, ◌||◌, true, false, None, Some, All, length, IfSome, IfOk, IfErr, IsNone};
+ghost use Rattle.std.specs.Prelude.{◌≡◌, ◌+◌, ◌<◌, ◌≤◌, ◌==◌, ◌||◌, true, false, None, Some, All, length, IfSome, IfOk, IfErr, IsNone};
 ghost use Rattle.std.specs.Option.{ForNone};
 ghost use Rattle.sync_fold.specs.Refusals.{WasRefused, is_apart};
 ghost use Rattle.sync_fold.specs.Counts.{held_among, kits_laid, kits_of};
 ghost use Rattle.numbered_runs.specs.Come.{HasEnded};
-ghost use Rattle.worker_seats.specs.Balances.{Balances, most};
+ghost use Rattle.worker_seats.specs.Balances.{Balances, most, spare_count};
 ghost use Rattle.worker_seats.specs.Ends.{IsEnd};
 ghost use Rattle.strand_list.specs.Pages.{shown};
 ghost use Rattle.threaded_driver.specs.Finds.{is_left};
@@ -238,6 +238,18 @@ impl<J: Run + Ledger + Stocked + Send, D: Deques, V: View> Desk<J, D, V> {
         match self.deques.get_mut(seat.deque()) {
             Some(thief) => seat.unbind_if_drained(thief),
             None => false,
+        }
+    }
+
+    /// The kit goes home that a worker has kept beside the lock, if there is one; it counts for that share.
+    pub(crate) fn take_home(&mut self, kept: Option<Kit<V>>, share: &mut Share<KitsOf<J>>)
+        requires fits { IfSome kept (λ k. k ≡ J.setting.kinds) }
+        requires some { spare_count kept ≤ share.old.amount }
+        ensures counted { spare_count kept + share.new.amount ≡ share.old.amount }
+        ensures parts { share.new.parts ≡ share.old.parts }
+    {
+        if let Some(kit) = kept {
+            self.give_kit(kit, share);
         }
     }
 

@@ -12,7 +12,7 @@ ghost use Rattle.numbered_runs.specs.Starts.{CannotStart};
 ghost use Rattle.stealing_deques.specs.Order.{IsBoundTo};
 ghost use Rattle.numbered_runs.specs.Come.{HasEnded};
 ghost use Rattle.sync_fold.specs.Counts.{kits_of};
-ghost use Rattle.worker_seats.specs.Balances.{most};
+ghost use Rattle.worker_seats.specs.Balances.{most, spare_count};
 ghost use Rattle.worker_seats.specs.Histories.{HasHistory};
 ghost use Rattle.worker_seats.specs.Ends.{IsAlone, IsEnd};
 ghost use Rattle.threaded_driver.specs.Finds.{is_left, IsAt};
@@ -456,8 +456,8 @@ impl<J: Run + Ledger + Stocked + Send, D: Deques, V: View> Floor<'_, J, D, V> {
         let mut supply = supply;
         match Piece::lay(&self.scene, strand, &mut supply) {
             Ok(piece) => {
-                let (share, kits) = supply.end();
-                let desk = self.put(rt, piece, share, kits);
+                let (share, kits, kept) = supply.into_parts();
+                let desk = self.put(rt, piece, share, kits, kept);
                 gate.at(number, Point::Laid);
                 self.look(desk, number, seat, gate)
             }
@@ -469,19 +469,24 @@ impl<J: Run + Ledger + Stocked + Send, D: Deques, V: View> Floor<'_, J, D, V> {
         }
     }
 
-    /// Lays a piece down under the lock, which has that share and so many kits; the lock stays with who lays it.
+    /// Lays a piece down under the lock, which has that share and so many kits, and has the kit go home that was kept for it. The lock stays with
+    /// who lays it.
     fn put<R: Wait>(
         &self,
         rt: &R,
         piece: Piece<J, V>,
         share: Share<KitsOf<J>>,
         kits: usize,
+        kept: Option<Kit<V>>,
     ) -> MutexGuard<'_, Desk<J, D, V>>
         requires one { share.parts ≡ 1 }
-        requires counted { share.amount ≡ kits }
+        requires counted { share.amount ≡ spare_count kept + kits }
+        requires fits { IfSome kept (λ k. k ≡ J.setting.kinds) }
         requires kits { kits ≡ kits_of piece.strand }
     {
+        let mut share = share;
         let mut desk = self.at_desk(rt);
+        desk.take_home(kept, &mut share);
         desk.lay(self.alloc, piece, share, kits);
         desk
     }

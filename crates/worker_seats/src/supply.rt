@@ -129,6 +129,22 @@ impl<'a, D: Shelf<K, L>, K: Drop, L: Ledger, R: Wait> Supply<'a, D, K, L, R> {
         (share, usize::MAX - free)
     }
 
+    /// The share again, of which the strand's kits and the one that is kept are the amount; how many the strand has, and the one that is kept.
+    pub fn into_parts(self) -> (Share<L>, usize, Option<K>)
+        ensures one { result.0.parts ≡ 1 }
+        ensures counted { result.0.amount ≡ spare_count result.2 + result.1 }
+        ensures kits { result.1 + self.entry.free ≡ most }
+        ensures fits { IfSome result.2 D.fits }
+    {
+        let Supply {
+            share,
+            free,
+            mut spare,
+            ..
+        } = self;
+        (share, usize::MAX - free, spare.take())
+    }
+
     /// A kit from under the lock, if there is one. Out of line, so that a kit that lies ready is taken quickly.
     #[inline(never)]
     fn fetch(&mut self) -> Option<K>
