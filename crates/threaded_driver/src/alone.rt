@@ -70,16 +70,16 @@ impl<J: Run + Ledger + Stocked + Send, D: Deques, V: View> Floor<'_, J, D, V> {
         ensures left { is_left result ≡ true → 0 < seat.new.left }
         ensures here { IsAt seat.new.here result }
     {
-        let (mut strand, share) = held.into_parts();
+        let (mut strand, share, ready) = held.into_parts();
         seat.lend_lists(&mut strand);
-        let mut supply = Supply::new(rt, &self.desk, share, strand.kits());
+        let mut supply = Supply::new(rt, &self.desk, share, strand.kits(), ready);
         self.is_alone.store(true, Ordering::Relaxed);
         let goes_on = self.go_on(rt, number, seat, &mut strand, &mut supply, gate);
         self.is_alone.store(false, Ordering::Relaxed);
         seat.lend_lists(&mut strand);
         if goes_on {
-            let (share, _) = supply.end();
-            return Found::Own(Held::new(strand, share));
+            let (share, _, kept) = supply.into_parts();
+            return Found::Own(Held::with_kit(strand, share, kept));
         }
         self.lay(rt, number, seat, strand, supply, gate)
     }

@@ -347,7 +347,24 @@ impl<J: Run + Ledger + Stocked + Send, D: Deques, V: View> Desk<J, D, V> {
         }
     }
 
-    /// Takes a kit, and then the oldest continuation of a worker that has one.
+    /// A stolen strand, for which a kit lies ready where there are plenty: most want one soon, and would take the lock for it.
+    fn equipped(&mut self, held: Held<J, V>) -> Held<J, V>
+        ensures strand { result ≡ held }
+    {
+        if !self.has_plenty() {
+            return held;
+        }
+        let (strand, mut share, ready) = held.into_parts();
+        if let Some(kit) = ready {
+            return Held::with_kit(strand, share, Some(kit));
+        }
+        match self.take_kit(&mut share) {
+            Some(kit) => Held::with_kit(strand, share, Some(kit)),
+            None => Held::new(strand, share),
+        }
+    }
+
+    /// Takes a kit, and then the oldest continuation of a worker that has one. The strand has another kit ready where there are plenty.
     fn steal(&mut self, alloc: Global, scene: &Scene<'_, J>, worker: usize) -> Found<J, V>
         requires none_left { self.old.left ≡ 0 }
         requires going { self.old.failure ≡ None }
@@ -357,7 +374,7 @@ impl<J: Run + Ledger + Stocked + Send, D: Deques, V: View> Desk<J, D, V> {
             .table
             .steal(alloc, scene, &mut self.deques, &self.came, worker)
         {
-            Ok(Some(held)) => Found::Stolen(held),
+            Ok(Some(held)) => Found::Stolen(self.equipped(held)),
             Ok(None) => Found::Nothing,
             Err(failure) => {
                 note(&mut self.failure, failure);

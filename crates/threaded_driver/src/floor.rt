@@ -167,9 +167,9 @@ impl<J: Run + Ledger + Stocked + Send, D: Deques, V: View> Floor<'_, J, D, V> {
         ensures left { is_left result ≡ true → 0 < seat.new.left }
         ensures fresh { seat.new.here ≡ None }
     {
-        let (mut strand, share) = held.into_parts();
+        let (mut strand, share, ready) = held.into_parts();
         seat.lend_lists(&mut strand);
-        let mut supply = Supply::new(rt, &self.desk, share, strand.kits());
+        let mut supply = Supply::new(rt, &self.desk, share, strand.kits(), ready);
         for _ in rt.forever() {
             if !self.step(rt, number, seat, &mut strand, &mut supply, gate) {
                 break;

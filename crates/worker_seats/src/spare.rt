@@ -24,12 +24,13 @@ impl<D: Shelf<K, L>, K, L: Ledger> Model for Spare<D, K, L> {
 }
 
 impl<D: Shelf<K, L>, K, L: Ledger> Spare<D, K, L> {
-    /// A place without a kit.
-    pub(crate) fn new() -> Spare<D, K, L>
-        ensures none { result ≡ None }
+    /// A place with that kit, or without one.
+    pub(crate) fn new(kit: Option<K>) -> Spare<D, K, L>
+        requires fits { IfSome kit D.fits }
+        ensures kit { result ≡ kit }
     {
         Spare {
-            kit: None,
+            kit,
             of: PhantomData,
             by: PhantomData,
         }

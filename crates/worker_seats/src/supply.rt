@@ -70,23 +70,27 @@ fn give_back<D: Shelf<K, L>, K, L: Ledger, R: Wait>(
 }
 
 impl<'a, D: Shelf<K, L>, K: Drop, L: Ledger, R: Wait> Supply<'a, D, K, L, R> {
-    /// The kits of a run for a strand with so many, which are that share's amount.
+    /// The kits of a run for a strand with so many, which are that share's amount together with the one that lies ready for it, if there is
+    /// one: then there were plenty.
     pub fn new(
         rt: &'a R,
         shelf: &'a Mutex<D>,
         share: Share<L>,
         kits: usize,
+        ready: Option<K>,
     ) -> Supply<'a, D, K, L, R>
         requires one { share.parts ≡ 1 }
-        requires counted { share.amount ≡ kits }
+        requires counted { share.amount ≡ spare_count ready + kits }
+        requires fits { IfSome ready D.fits }
         ensures free { kits + result.free ≡ most }
     {
+        let had_plenty = ready.is_some();
         Supply {
             rt,
             shelf,
-            spare: Spare::new(),
+            spare: Spare::new(ready),
             share,
-            had_plenty: false,
+            had_plenty,
             unused: 0,
             free: usize::MAX - kits,
             of: PhantomData,
@@ -142,7 +146,11 @@ impl<'a, D: Shelf<K, L>, K: Drop, L: Ledger, R: Wait> Supply<'a, D, K, L, R> {
             mut spare,
             ..
         } = self;
-        (share, usize::MAX - free, spare.take())
+        let kits = usize::MAX - free;
+        match spare.take() {
+            Some(kit) => (share, kits, Some(kit)),
+            None => (share, kits, None),
+        }
     }
 
     /// A kit from under the lock, if there is one. Out of line, so that a kit that lies ready is taken quickly.
