@@ -1,10 +1,12 @@
 -- Sums of records that gave two reducers values which take no memory.
 use Rattle.std.proofs.Common.{◌≡◌, ℕ, ◌<◌, false, List, [], ◌∷◌, length, map, sym, ap, ◌∙◌, subst, arith, get_or}
-use Rattle.std.specs.Prelude.{slice_get, slice_set, Option, Some, None, IfSome}
+use Rattle.std.proofs.lemmas.List.Elements.{All-head, All-tail}
+use Rattle.std.specs.Prelude.{All, slice_get, slice_set, Option, Some, None, IfSome}
 use Rattle.monoid_laws.specs.declared.Kind.{Kind}
 use Rattle.monoid_laws.specs.declared.Val.{Val}
 use Rattle.monoid_laws.specs.Worth.{Worth}
-use Rattle.monoid_laws.specs.Kinds.{meaning, operate, operate_all, identities, identity_of, IsWorth}
+use Rattle.monoid_laws.specs.Kinds.{meaning, operate, operate_all, identities, identity_of, AreWorths, IsMonoid, IsWorth}
+use Rattle.monoid_laws.proofs.Rows.{operate_all_identities}
 use Rattle.record_theory.specs.Record.{PlainRecord, touched}
 use Rattle.record_theory.specs.Named.{filled, IsValueAt, AreValuesFrom}
 use Rattle.record_theory.specs.Sums.{arguments_of_last}
@@ -68,6 +70,63 @@ module _ (c : Kind) (g : Gift) where
       let two : (given_by j).0 ≡ 1 = ap (λ o. (given_by o).0) (sym r) ∙ a in
       subst (λ o. IsWorth o (meaning (given_by g).1)) (sym p)
       (subst (λ o. IsWorth l (meaning (given_by o).1)) (sym r) (subst (λ o. IsValueAt (slice_get (k ∷ l ∷ ks) o) (meaning (given_by j).1)) two v.2.1))
+
+-- the values of two reducers where a record gave nothing
+pub none_combined : (kinds : List Kind) (gifts : List Gift) (x y : Worth) → length gifts ≡ 0 → All IsMonoid kinds → AreWorths kinds (x ∷ y ∷ [])
+    → x ∷ y ∷ [] ≡ operate_all kinds (x ∷ y ∷ []) (filled (identities kinds) (map touched (map given_by gifts)))
+none_combined kinds [] x y n m r = sym (operate_all_identities kinds (x ∷ y ∷ []) m r)
+none_combined kinds (g ∷ gs) x y n m r = absurd (omega (arith, n))
+
+-- where it gave the first of them something, or the second
+module _ (c : Kind) (g : Gift) where
+  pub one_only : (kinds : List Kind) (gifts : List Gift) (x y u : Worth) → length kinds ≡ 2 → length gifts ≡ 1 → All IsMonoid kinds → AreWorths kinds (x ∷ y ∷ [])
+      → c ≡ get_or kinds 0 c → g ≡ get_or gifts 0 g → (given_by g).0 ≡ 0 → u ≡ operate c x (meaning (given_by g).1)
+      → u ∷ y ∷ [] ≡ operate_all kinds (x ∷ y ∷ []) (filled (identities kinds) (map touched (map given_by gifts)))
+  one_only [] gifts x y u n o m w p r a e = absurd (omega (arith, n))
+  one_only (k ∷ []) gifts x y u n o m w p r a e = absurd (omega (arith, n))
+  one_only (k ∷ l ∷ j ∷ ks) gifts x y u n o m w p r a e = absurd (omega (arith, n))
+  one_only (k ∷ l ∷ []) [] x y u n o m w p r a e = absurd (omega (arith, o))
+  one_only (k ∷ l ∷ []) (i ∷ j ∷ gs) x y u n o m w p r a e = absurd (omega (arith, o))
+  one_only (k ∷ l ∷ []) (i ∷ []) x y u n o m w p r a e =
+      let first : u ≡ operate k x (meaning (given_by i).1) = e ∙ ap (λ d. operate d x (meaning (given_by g).1)) p ∙ ap (λ h. operate k x (meaning (given_by h).1)) r in
+      let one : (given_by i).0 ≡ 0 = ap (λ h. (given_by h).0) (sym r) ∙ a in
+      let same : operate l y (identity_of l) ≡ y = (All-head IsMonoid l [] (All-tail IsMonoid k (l ∷ []) m)).right_identity y w.1.0 in
+      ap (λ v. v ∷ y ∷ []) first ∙ ap (λ v. operate k x (meaning (given_by i).1) ∷ v ∷ []) (sym same)
+      ∙ ap (λ n. operate_all (k ∷ l ∷ []) (x ∷ y ∷ []) (slice_set (identity_of k ∷ identity_of l ∷ []) n (meaning (given_by i).1))) (sym one)
+
+  pub two_only : (kinds : List Kind) (gifts : List Gift) (x y v : Worth) → length kinds ≡ 2 → length gifts ≡ 1 → All IsMonoid kinds → AreWorths kinds (x ∷ y ∷ [])
+      → c ≡ get_or kinds 1 c → g ≡ get_or gifts 0 g → (given_by g).0 ≡ 1 → v ≡ operate c y (meaning (given_by g).1)
+      → x ∷ v ∷ [] ≡ operate_all kinds (x ∷ y ∷ []) (filled (identities kinds) (map touched (map given_by gifts)))
+  two_only [] gifts x y v n o m w p r a e = absurd (omega (arith, n))
+  two_only (k ∷ []) gifts x y v n o m w p r a e = absurd (omega (arith, n))
+  two_only (k ∷ l ∷ j ∷ ks) gifts x y v n o m w p r a e = absurd (omega (arith, n))
+  two_only (k ∷ l ∷ []) [] x y v n o m w p r a e = absurd (omega (arith, o))
+  two_only (k ∷ l ∷ []) (i ∷ j ∷ gs) x y v n o m w p r a e = absurd (omega (arith, o))
+  two_only (k ∷ l ∷ []) (i ∷ []) x y v n o m w p r a e =
+      let second : v ≡ operate l y (meaning (given_by i).1) = e ∙ ap (λ d. operate d y (meaning (given_by g).1)) p ∙ ap (λ h. operate l y (meaning (given_by h).1)) r in
+      let two : (given_by i).0 ≡ 1 = ap (λ h. (given_by h).0) (sym r) ∙ a in
+      let same : operate k x (identity_of k) ≡ x = (All-head IsMonoid k (l ∷ []) m).right_identity x w.0 in
+      ap (λ u. x ∷ u ∷ []) second ∙ ap (λ u. u ∷ operate l y (meaning (given_by i).1) ∷ []) (sym same)
+      ∙ ap (λ n. operate_all (k ∷ l ∷ []) (x ∷ y ∷ []) (slice_set (identity_of k ∷ identity_of l ∷ []) n (meaning (given_by i).1))) (sym two)
+
+  pub of_one : (kinds : List Kind) (gifts : List Gift) → length kinds ≡ 2 → length gifts ≡ 1 → c ≡ get_or kinds 0 c → g ≡ get_or gifts 0 g
+      → AreValuesFrom 0 kinds (map touched (map given_by gifts)) → (given_by g).0 ≡ 0 → IsWorth c (meaning (given_by g).1)
+  of_one [] gifts n o p r v a = absurd (omega (arith, n))
+  of_one (k ∷ ks) [] n o p r v a = absurd (omega (arith, o))
+  of_one (k ∷ ks) (i ∷ gs) n o p r v a =
+      let one : (given_by i).0 ≡ 0 = ap (λ h. (given_by h).0) (sym r) ∙ a in
+      subst (λ d. IsWorth d (meaning (given_by g).1)) (sym p)
+      (subst (λ h. IsWorth k (meaning (given_by h).1)) (sym r) (subst (λ d. IsValueAt (slice_get (k ∷ ks) d) (meaning (given_by i).1)) one v.1))
+
+  pub of_two : (kinds : List Kind) (gifts : List Gift) → length kinds ≡ 2 → length gifts ≡ 1 → c ≡ get_or kinds 1 c → g ≡ get_or gifts 0 g
+      → AreValuesFrom 0 kinds (map touched (map given_by gifts)) → (given_by g).0 ≡ 1 → IsWorth c (meaning (given_by g).1)
+  of_two [] gifts n o p r v a = absurd (omega (arith, n))
+  of_two (k ∷ []) gifts n o p r v a = absurd (omega (arith, n))
+  of_two (k ∷ l ∷ ks) [] n o p r v a = absurd (omega (arith, o))
+  of_two (k ∷ l ∷ ks) (i ∷ gs) n o p r v a =
+      let two : (given_by i).0 ≡ 1 = ap (λ h. (given_by h).0) (sym r) ∙ a in
+      subst (λ d. IsWorth d (meaning (given_by g).1)) (sym p)
+      (subst (λ h. IsWorth l (meaning (given_by h).1)) (sym r) (subst (λ d. IsValueAt (slice_get (k ∷ l ∷ ks) d) (meaning (given_by i).1)) two v.1))
 
 -- the first procedure put in
 pub first_put : (more : List (ℕ × ℕ)) (e : ℕ × ℕ) → length more ≡ 1 → e ≡ get_or more 0 e → e ∷ [] ≡ put_entries [] more

@@ -1,7 +1,7 @@
-// Sums of records that gave two reducers values which take no memory, and entered one procedure: most are such.
+// Sums of records that gave two reducers, or one of them, or neither, values which take no memory, and entered one procedure: most are such.
 ghost use Rattle.std.specs.Prelude.{◌≡◌, ◌<◌, ◌≤◌, ◌∷◌, [], IfSome, OnSome, All, length, map, pos, slice_get, None, Some, false, option_to_list};
 ghost use Rattle.monoid_laws.specs.Worth.{number, best};
-ghost use Rattle.monoid_laws.specs.Kinds.{meaning, identities, identity_of, operate, operate_all, IsMonoid, IsWorth};
+ghost use Rattle.monoid_laws.specs.Kinds.{meaning, identities, identity_of, operate, operate_all, AreWorths, IsMonoid, IsWorth};
 ghost use Rattle.meaning.specs.Elision.{depth_limit};
 ghost use Rattle.record_theory.specs.Record.{PlainRecord, touched};
 ghost use Rattle.record_theory.specs.Named.{filled, AreValuesFrom, HaveValues};
@@ -81,6 +81,8 @@ impl FlatSum {
     #[inline(always)]
     fn add_at(&mut self, kinds: &[Kind], records: &[Record], place: usize) -> Option<()>
         requires two { length kinds.now ≡ 2 }
+        requires monoids { All IsMonoid kinds.now }
+        requires right { AreWorths kinds.now self.old.worths }
         requires values { HaveValues kinds.now records.now }
         ensures none { OnSome result (slice_get records.now place ≡ None → self.new ≡ self.old) }
         ensures added { (r : PlainRecord) → slice_get records.now place ≡ Some r
@@ -99,6 +101,8 @@ impl FlatSum {
     #[inline(always)]
     fn add(&mut self, kinds: &[Kind], record: &Record) -> Option<()>
         requires two { length kinds.now ≡ 2 }
+        requires monoids { All IsMonoid kinds.now }
+        requires right { AreWorths kinds.now self.old.worths }
         requires values { AreValuesFrom 0 kinds.now record.now.contribution }
         ensures added { OnSome result (self.new ≡ added kinds.now self.old record.now) }
     {
@@ -165,21 +169,64 @@ fn unit_of(alloc: Global, kind: &Kind) -> Option<Flat>
     }
 }
 
-// The values of both reducers, with what a record gave on their right, where that is two values that take no memory.
+// The values of both reducers, with what a record gave on their right, where that is values that take no memory.
 #[inline(always)]
 #[tactic(auto, using(crate::proofs::FlatSums::two_combined, crate::proofs::FlatSums::first_value, crate::proofs::FlatSums::second_value))]
 fn with_two(kinds: &[Kind], first: Flat, second: Flat, gifts: &[Gift]) -> Option<(Flat, Flat)>
     requires two { length kinds.now ≡ 2 }
+    requires monoids { All IsMonoid kinds.now }
+    requires right { AreWorths kinds.now (worth_of first ∷ worth_of second ∷ []) }
     requires values { AreValuesFrom 0 kinds.now (map touched (map given_by gifts.now)) }
     ensures combined { IfSome result (λ p. worth_of p.0 ∷ worth_of p.1 ∷ []
         ≡ operate_all kinds.now (worth_of first ∷ worth_of second ∷ []) (filled (identities kinds.now) (map touched (map given_by gifts.now)))) }
 {
     if gifts.len() != 2 {
-        return None;
+        return with_fewer(kinds, first, second, gifts);
     }
     let one = with_gift(&kinds[0], 0, first, &gifts[0])?;
     let two = with_gift(&kinds[1], 1, second, &gifts[1])?;
     Some((one, two))
+}
+
+// The same where a record gave one of them nothing, or both, as many do.
+#[inline(never)]
+#[tactic(auto, using(crate::proofs::FlatSums::none_combined))]
+fn with_fewer(kinds: &[Kind], first: Flat, second: Flat, gifts: &[Gift]) -> Option<(Flat, Flat)>
+    requires two { length kinds.now ≡ 2 }
+    requires monoids { All IsMonoid kinds.now }
+    requires right { AreWorths kinds.now (worth_of first ∷ worth_of second ∷ []) }
+    requires values { AreValuesFrom 0 kinds.now (map touched (map given_by gifts.now)) }
+    ensures combined { IfSome result (λ p. worth_of p.0 ∷ worth_of p.1 ∷ []
+        ≡ operate_all kinds.now (worth_of first ∷ worth_of second ∷ []) (filled (identities kinds.now) (map touched (map given_by gifts.now)))) }
+{
+    if gifts.is_empty() {
+        return Some((first, second));
+    }
+    if gifts.len() != 1 {
+        return None;
+    }
+    with_one(kinds, first, second, gifts)
+}
+
+// The same where a record gave one of them something.
+#[inline(always)]
+#[tactic(auto, using(crate::proofs::FlatSums::one_only, crate::proofs::FlatSums::two_only, crate::proofs::FlatSums::of_one, crate::proofs::FlatSums::of_two))]
+fn with_one(kinds: &[Kind], first: Flat, second: Flat, gifts: &[Gift]) -> Option<(Flat, Flat)>
+    requires two { length kinds.now ≡ 2 }
+    requires one { length gifts.now ≡ 1 }
+    requires monoids { All IsMonoid kinds.now }
+    requires right { AreWorths kinds.now (worth_of first ∷ worth_of second ∷ []) }
+    requires values { AreValuesFrom 0 kinds.now (map touched (map given_by gifts.now)) }
+    ensures combined { IfSome result (λ p. worth_of p.0 ∷ worth_of p.1 ∷ []
+        ≡ operate_all kinds.now (worth_of first ∷ worth_of second ∷ []) (filled (identities kinds.now) (map touched (map given_by gifts.now)))) }
+{
+    match with_gift(&kinds[0], 0, first, &gifts[0]) {
+        Some(one) => Some((one, second)),
+        None => {
+            let two = with_gift(&kinds[1], 1, second, &gifts[0])?;
+            Some((first, two))
+        }
+    }
 }
 
 // A reducer's value with what a record gave on its right, where that is this reducer's and takes no memory.

@@ -12,6 +12,9 @@ loop-place-init c = record {
   keeps = ap (λ (s : PlainSum). s.keeps) c.in_ok-sum.ensures.none;
 }
 
+pub add_at-requires-clause-right : goal.add_at-requires-clause-right
+add_at-requires-clause-right c = c.loop-place.invariant.summed.right
+
 pub loop-place-preserved : goal.loop-place-preserved
 loop-place-preserved c = record {
   summed =
