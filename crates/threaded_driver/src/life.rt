@@ -7,6 +7,7 @@ use crate::floor::Floor;
 use crate::found::Found;
 use crate::gate::Gate;
 use right_strands::run::Run;
+use small_steps::lists::WorkLists;
 use std::alloc::{AllocError, Global};
 use std::sync::Wait;
 use std::sync::ledger::Ledger;
@@ -35,7 +36,8 @@ where
     live(rt, floor, number, seat, found, gate)
 }
 
-/// The life of a worker in a thread of its own, whose seat ends with it.
+/// The life of a worker in a thread of its own, whose seat ends with it. Whatever strand it works on, that does so with this worker's lists: in
+/// strands' boxes there would be as many as strands lie side by side, all to be let go before the answer.
 pub(crate) fn serve<J, D, V, R, G>(rt: &R, floor: &Floor<'_, J, D, V>, seat: Seat<J, D>, gate: &G)
 where
     J: Run + Ledger + Stocked + Send,
@@ -46,6 +48,9 @@ where
 {
     // Want of memory shows where the worker needs some.
     let _ = use_memory(floor.alloc);
+    let mut seat = seat;
+    let mut lists = WorkLists::new(floor.alloc);
+    seat.exchange_lists(&mut lists);
     let _ = work(rt, floor, seat, gate);
     floor.bell().part();
 }
