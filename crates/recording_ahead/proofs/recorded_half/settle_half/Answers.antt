@@ -1,4 +1,4 @@
-use Rattle.std.proofs.Common.{rules, ◌≡◌, ◌∙◌, true, false, List, reverse, sym, ap, subst}
+use Rattle.std.proofs.Common.{rules, ◌≡◌, ◌∙◌, ◌+◌, ◌<◌, ◌≤◌, ◌^◌, true, false, All, List, length, reverse, sym, ap, subst, vec_len, vec_capacity, arith}
 use Rattle.positions.specs.declared.phase.Phase.{Phase}
 use Rattle.positions.specs.declared.phase.Phase.TheVariants.{Running}
 use Rattle.positions.specs.Activations.{PlainActivation}
@@ -38,3 +38,24 @@ returns-clause-settled g c =
     false c.half_goes.new.top (arguments_then n p.site p.share s.arguments) c.put_last.new.arguments.items
     (c.in_ok-put_last.ensures.put ∙ ap (λ (z : PlainStrand). arguments_then n p.site p.share z.arguments) (c.machine.view_is ∙ others)) (c.if-half_goes.ensures.recorded setting)
     (sym (ap (λ (z : PlainStrand). z.phase) others) ∙ c.requires.running) clear grain halved those)
+
+pub half_goes-requires-clause-there : goal.half_goes-requires-clause-there
+half_goes-requires-clause-there g c = ap (λ (s : PlainStrand). s.top.work) c.machine.view_is ∙ c.requires.there
+
+pub half_goes-requires-clause-children : goal.half_goes-requires-clause-children
+half_goes-requires-clause-children g c =
+    subst (λ (s : PlainStrand). s.top.children + 1024 < 2 ^ 64) (sym c.machine.view_is) c.requires.children
+
+pub half_goes-requires-clause-copies : goal.half_goes-requires-clause-copies
+half_goes-requires-clause-copies g c =
+    subst (λ (s : PlainStrand). All (λ v. v.items ≡ s.top.slots) c.args.ready.copies.items) (sym c.machine.view_is) c.requires.copies
+
+pub half_goes-requires-clause-path_room : goal.half_goes-requires-clause-path_room
+half_goes-requires-clause-path_room g c =
+    let room : vec_len c.reserve.new.self + (length c.args.ready.copies.items + 1) ≤ vec_capacity c.reserve.new.self = search rules in
+    omega (arith, room)
+
+pub half_goes-requires-clause-below_room : goal.half_goes-requires-clause-below_room
+half_goes-requires-clause-below_room g c =
+    let room : vec_len c.reserve-2.new.self + (length c.args.ready.copies.items + 1) ≤ vec_capacity c.reserve-2.new.self = search rules in
+    omega (arith, room)
