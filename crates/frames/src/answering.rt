@@ -59,11 +59,14 @@ impl<V: View> Strand<V> {
         answer_ahead(&mut self.machine, alloc, setting, calls, leaves)
     }
 
-    /// Whether the topmost instance has a half of a loop left that was halved so often. Nothing is claimed of it.
+    /// Whether the topmost instance has a half of a loop left that was halved so often, or goes over to such a second half: with that a
+    /// continuation goes on that was popped or stolen. Nothing is claimed of it.
     #[inline(always)]
     pub fn is_parted(&self, often: u32) -> bool {
         match self.machine.top.work() {
-            Work::Halves(_, halvings, _) => halvings.saturating_add(often) <= meaning::HALVINGS,
+            Work::Halves(_, halvings, _) | Work::Second(_, halvings, _) => {
+                halvings.saturating_add(often) <= meaning::HALVINGS
+            }
             _ => false,
         }
     }

@@ -410,7 +410,7 @@ impl<J: Run, V: View> RightStrand<J, V> {
         self.body.strand.kits()
     }
 
-    /// Whether the topmost instance has a half of a loop left that was halved so often. Nothing rests on it.
+    /// Whether the topmost instance has a half of a loop left that was halved so often, or goes over to such a second half. Nothing rests on it.
     #[inline(always)]
     pub fn is_parted(&self, often: u32) -> bool {
         self.body.strand.is_parted(often)

@@ -325,7 +325,7 @@ impl<J: Run + Ledger + Stocked + Send, D: Deques, V: View> Floor<'_, J, D, V> {
         }
     }
 
-    /// Makes the child of a strand that is at a spawn a call where the deque holds enough, else pushes the continuation.
+    /// Makes the child of a strand that is at a spawn a call where the deque holds enough or the child is too small, else pushes the continuation.
     #[inline(always)]
     fn call_or_push<G: Gate>(
         &self,
@@ -340,7 +340,7 @@ impl<J: Run + Ledger + Stocked + Send, D: Deques, V: View> Floor<'_, J, D, V> {
         ensures bound { IsBoundTo seat.new.here (spot_of strand.new.strand) }
         ensures lower { strand.new.strand.lower ≡ strand.old.strand.lower }
     {
-        if seat.holds_enough() {
+        if self.calls_child(seat, strand) {
             strand.inline();
             return;
         }

@@ -25,7 +25,22 @@ impl<J: Run + Ledger + Stocked + Send, D: Deques, V: View> Floor<'_, J, D, V> {
     pub(crate) fn calls_children(&self, seat: &mut Seat<J, D>, strand: &RightStrand<J, V>) -> bool
         ensures same { seat.new ≡ seat.old }
     {
+        self.holds_enough_or(seat, strand, self.parted)
+    }
+
+    /// Whether the child is called that a strand is at the spawn of: so, or where it is half of such a part.
+    pub(crate) fn calls_child(&self, seat: &mut Seat<J, D>, strand: &RightStrand<J, V>) -> bool
+        ensures same { seat.new ≡ seat.old }
+    {
+        self.holds_enough_or(seat, strand, self.parted.saturating_add(1))
+    }
+
+    /// Whether the deque holds enough, or records may answer the run and the topmost instance's half was halved so often.
+    #[inline(always)]
+    fn holds_enough_or(&self, seat: &mut Seat<J, D>, strand: &RightStrand<J, V>, often: u32) -> bool
+        ensures same { seat.new ≡ seat.old }
+    {
         let holds_enough = seat.holds_enough();
-        holds_enough || (self.has_records && strand.is_parted(self.parted))
+        holds_enough || (self.has_records && strand.is_parted(often))
     }
 }
