@@ -1,5 +1,6 @@
 pub mod LeafSteps
 pub mod LeafChains
 pub mod AnsweredChains
+pub mod Outcomes
 pub mod HalfSettled
 pub mod Kept
