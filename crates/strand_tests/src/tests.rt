@@ -6,6 +6,7 @@ mod driving;
 mod folds;
 mod kits;
 mod names;
+mod owner;
 mod pieces;
 mod statements;
 mod thefts;

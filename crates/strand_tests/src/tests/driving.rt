@@ -17,8 +17,7 @@ use view_pool::{Kit, PlainView, Pool};
 /// More small steps than any of the programs takes.
 const STEPS: usize = 2000;
 
-/// A program, the tables that it runs on, and the records that may answer it, of which there are none: one function of each test owns them,
-/// since what their dropping takes the prover is paid for each owner.
+/// A program, the tables that it runs on, and the records that may answer it, of which there are none. `owner` has them.
 #[derive(Clone, Copy)]
 pub struct Input<'a> {
     pub program: &'a Checked,

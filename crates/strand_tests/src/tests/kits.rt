@@ -4,15 +4,15 @@ ghost use Rattle.monoid_laws.specs.declared.Kind.{Kind};
 
 use super::answers::answer_text;
 use super::driving::{Input, are_monoids, begin};
+use super::owner::{Tried, try_program};
 use frames::strand::Strand;
 use linked_program::checked::Checked;
 use positions::answer::RunAnswer;
 use positions::phase::Phase;
-use rerun_records::records::Records;
 use std::alloc::Global;
 use std::process::Abort;
-use test_kit::beginnings::{checked, kits, tables};
-use test_kit::texts::{NESTED_READS, SALES};
+use test_kit::beginnings::kits;
+use test_kit::texts::NESTED_READS;
 use view_pool::{Kit, KitSource, PlainView, Pool};
 
 /// More small steps than the program takes.
@@ -188,7 +188,7 @@ const CALLS: [(usize, u64); 16] = [
 ];
 
 /// Runs that are given no kit at any calls, over no records.
-fn all_go_unrecorded(rt: &impl Abort, alloc: Global, input: Input<'_>)
+pub fn all_go_unrecorded(rt: &impl Abort, alloc: Global, input: Input<'_>)
     requires empty { input.records.now ≡ [] }
 {
     for calls in &CALLS {
@@ -198,13 +198,5 @@ fn all_go_unrecorded(rt: &impl Abort, alloc: Global, input: Input<'_>)
 
 #[test]
 fn no_kit_at_any_calls(rt: HostRuntime) {
-    let tables = tables(rt.alloc(), SALES).expect(&rt, "tables");
-    let program = checked(rt.alloc(), NESTED_READS, &tables).expect(&rt, "a program");
-    let records = Records::new(rt.alloc());
-    let input = Input {
-        program: &program,
-        tables: &tables,
-        records: &records,
-    };
-    all_go_unrecorded(&rt, rt.alloc(), input);
+    try_program(&rt, rt.alloc(), NESTED_READS, Tried::Unrecorded);
 }

@@ -2,12 +2,10 @@
 ghost use Rattle.std.specs.Prelude.{◌≡◌, []};
 
 use super::driving::{Child, Input};
+use super::owner::{Tried, try_program};
 use super::thefts::{Row, rows_answer, run};
-use rerun_records::records::Records;
 use std::alloc::Global;
 use std::process::Abort;
-use test_kit::beginnings::{checked, tables};
-use test_kit::texts::SALES;
 
 /// Programs that end with a value. The values stand in the order of the text, however often continuations are stolen.
 const ENDING: [Row; 10] = [
@@ -122,24 +120,16 @@ proc main() { cilk_for i in 0 .. 100 grain 100 : leaf(i); x = call leaf(4); y = 
 /// What it ends with.
 const OF_MANY: &str = "35 [Int(2811), List([99, 5])]";
 
-/// Whether the program is done in ten steps by one strand, which does in one go what it can.
-fn is_done_in_one_go(rt: &impl Abort, alloc: Global, input: Input<'_>) -> bool
+/// The program is done in ten steps by one strand, which does in one go what it can.
+pub fn is_done_in_one_go(rt: &impl Abort, alloc: Global, input: Input<'_>)
     requires { input.records.now ≡ [] }
 {
     let ran = run(rt, alloc, input, 0, Child::Ahead);
-    ran.answer.as_str() == OF_MANY && ran.steps <= 10
+    assert!(rt; ran.answer.as_str() == OF_MANY && ran.steps <= 10);
 }
 
 /// Main's loop, its share of it and the end of main are done by themselves, and what is behind each of them.
 #[test]
 fn most_steps_are_done_in_one_go(rt: HostRuntime) {
-    let tables = tables(rt.alloc(), SALES).expect(&rt, "tables");
-    let program = checked(rt.alloc(), MANY, &tables).expect(&rt, "a program");
-    let records = Records::new(rt.alloc());
-    let input = Input {
-        program: &program,
-        tables: &tables,
-        records: &records,
-    };
-    assert!(&rt; is_done_in_one_go(&rt, rt.alloc(), input));
+    try_program(&rt, rt.alloc(), MANY, Tried::InOneGo);
 }

@@ -4,15 +4,13 @@ ghost use Rattle.monoid_laws.specs.Kinds.{IsMonoid};
 
 use super::answers::{answer_text, slow_text};
 use super::driving::{Child, Input, are_monoids, begin, go_on, parent, to_pause};
+use super::owner::{Tried, try_program};
 use frames::strand::Strand;
-use input_tables::Tables;
 use linked_program::checked::Checked;
 use positions::phase::{Paused, Phase};
-use rerun_records::records::Records;
 use std::alloc::Global;
 use std::process::Abort;
-use test_kit::beginnings::{checked, kits, tables};
-use test_kit::texts::SALES;
+use test_kit::beginnings::kits;
 use view_pool::{Kit, PlainView, Pool};
 
 /// How many kits there are: one for each strand, and one more.
@@ -223,7 +221,7 @@ fn agrees(rt: &impl Abort, alloc: Global, input: Input<'_>, row: &Row, thefts: u
 
 /// The program of a row gives the answer with each number of thefts, whichever way the other children go, as the plain slow program
 /// does. All kits are home then.
-fn all_answer(rt: &impl Abort, alloc: Global, input: Input<'_>, row: &Row)
+pub fn all_answer(rt: &impl Abort, alloc: Global, input: Input<'_>, row: &Row)
     requires empty { input.records.now ≡ [] }
 {
     agrees_slowly(rt, alloc, input.program, row);
@@ -244,19 +242,7 @@ fn agrees_slowly(rt: &impl Abort, alloc: Global, program: &Checked, row: &Row) {
 
 /// The programs of the rows give their answers.
 pub fn rows_answer(rt: &impl Abort, alloc: Global, rows: &[Row]) {
-    let tables = tables(alloc, SALES).expect(rt, "tables");
     for row in rows {
-        row_answers(rt, alloc, &tables, row);
+        try_program(rt, alloc, row.0, Tried::Row(row));
     }
-}
-
-fn row_answers(rt: &impl Abort, alloc: Global, tables: &Tables, row: &Row) {
-    let program = checked(alloc, row.0, tables).expect(rt, "a program");
-    let records = Records::new(alloc);
-    let input = Input {
-        program: &program,
-        tables,
-        records: &records,
-    };
-    all_answer(rt, alloc, input, row);
 }
