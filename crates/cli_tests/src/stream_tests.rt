@@ -88,16 +88,26 @@ fn slow_writer(
 
 const RUN: &[u8] = b"run\n";
 
+// Compares bytes.
+fn same_bytes(rt: &impl Abort, found: &[u8], wanted: &[u8]) {
+    assert_eq!(rt; found, wanted);
+}
+
+// Which streams have failed: the input, and the output.
+fn have_failed(rt: &impl Abort, failures: &Failures, streams: (bool, bool)) {
+    assert!(rt; failures.noted() == streams);
+}
+
 #[test]
 fn reads_that_are_interrupted_or_refused(rt: HostRuntime) {
     let mut failures = Failures::none();
     let mut reader = halting_reader(RUN, ErrorKind::Interrupted, 2, 3);
     let read = read_all(rt.alloc(), &mut reader, &mut failures).expect(&rt, "bytes");
-    assert_eq!(&rt; read.as_slice(), RUN);
+    same_bytes(&rt, &read, RUN);
     let mut reader = halting_reader(RUN, ErrorKind::OutOfMemory, 1, 1);
     let read = read_all(rt.alloc(), &mut reader, &mut failures);
     assert!(&rt; matches!(&read, Err(SessionError::NoMemory)));
-    assert_eq!(&rt; failures.noted(), (false, false));
+    have_failed(&rt, &failures, (false, false));
 }
 
 #[test]
@@ -106,12 +116,11 @@ fn writes_that_are_interrupted_or_take_nothing(rt: HostRuntime) {
     let mut writer = slow_writer(rt.alloc(), INTERRUPTED, INTERRUPTED, 3);
     write_whole(&mut writer, b"ok\n", &mut failures).expect(&rt, "written");
     flush(&mut writer, &mut failures).expect(&rt, "flushed");
-    assert_eq!(&rt; writer.taken.as_slice(), b"ok\n".as_slice());
-    assert_eq!(&rt; failures.noted(), (false, false));
+    have_failed(&rt, &failures, (false, false));
     let written = write_whole(&mut writer, b"ok\n", &mut failures);
     assert!(&rt; matches!(&written, Err(SessionError::Write)));
-    assert_eq!(&rt; writer.taken.len(), 3);
-    assert_eq!(&rt; failures.noted(), (false, true));
+    same_bytes(&rt, &writer.taken, b"ok\n");
+    have_failed(&rt, &failures, (false, true));
 }
 
 const RETURNS_4: &[u8] = b"proc main() { return 4; }";
@@ -138,17 +147,21 @@ fn ending(
     }
 }
 
-// Nothing is written, though the writer would fail too.
+// The read before the byte of that number fails. Nothing is written, though the writer would fail too.
+fn fails_before(rt: &(impl Abort + Threads + Wait + Sync), alloc: Global, at: usize) {
+    let mut reader = halting_reader(RUN, ErrorKind::ConnectionReset, at, 1);
+    let mut writer = slow_writer(alloc, None, None, 7);
+    let mut failures = Failures::none();
+    let ended = ending(rt, alloc, &mut reader, &mut writer, &mut failures);
+    same_bytes(rt, ended.as_bytes(), b"failed input");
+    same_bytes(rt, &writer.taken, b"");
+    have_failed(rt, &failures, (true, false));
+}
+
 #[test]
 fn a_read_fails_in_mid_stream(rt: HostRuntime) {
     for at in 0..5 {
-        let mut reader = halting_reader(RUN, ErrorKind::ConnectionReset, at, 1);
-        let mut writer = slow_writer(rt.alloc(), None, None, 7);
-        let mut failures = Failures::none();
-        let ended = ending(&rt, rt.alloc(), &mut reader, &mut writer, &mut failures);
-        assert_eq!(&rt; ended, "failed input");
-        assert_eq!(&rt; writer.taken.len(), 0);
-        assert_eq!(&rt; failures.noted(), (true, false));
+        fails_before(&rt, rt.alloc(), at);
     }
 }
 
@@ -165,27 +178,33 @@ fn answered_by(read: usize) -> &'static str {
     "refused E19 1\nok\n"
 }
 
-// Whether the read of a live session fails before the byte of that number, and what it has answered by then.
+// Whether the read of a live session fails before the byte of that number. What it has answered by then is written.
 fn fails_live(
     rt: &(impl Abort + Threads + Wait + Sync),
     alloc: Global,
     at: usize,
     failures: &mut Failures,
-) -> (bool, Vec<u8>) {
+    written: &mut Vec<u8>,
+) -> bool {
     let session = session(rt, alloc, RETURNS_4, NO_ROWS);
     let mut reader = halting_reader(LINES, ErrorKind::ConnectionReset, at, 1);
+    let ended = ended_live(rt, alloc, session, &mut reader, written, failures);
+    matches!(&ended, Err(SessionError::Read))
+}
+
+fn fails_live_before(rt: &(impl Abort + Threads + Wait + Sync), alloc: Global, at: usize) {
+    let mut failures = Failures::none();
     let mut written = Vec::new(alloc);
-    let ended = ended_live(rt, alloc, session, &mut reader, &mut written, failures);
-    (matches!(&ended, Err(SessionError::Read)), written)
+    let fails = fails_live(rt, alloc, at, &mut failures, &mut written);
+    assert!(rt; fails);
+    have_failed(rt, &failures, (true, false));
+    same_bytes(rt, &written, answered_by(at).as_bytes());
 }
 
 #[test]
 fn a_read_of_a_live_session_fails(rt: HostRuntime) {
     for at in 0..LINES.len() {
-        let mut failures = Failures::none();
-        let (fails, written) = fails_live(&rt, rt.alloc(), at, &mut failures);
-        assert!(&rt; fails && failures.noted() == (true, false));
-        assert_eq!(&rt; written.as_slice(), answered_by(at).as_bytes());
+        fails_live_before(&rt, rt.alloc(), at);
     }
 }
 
@@ -228,8 +247,8 @@ fn ends_so(rt: &(impl Abort + Threads + Wait + Sync), alloc: Global, row: Ending
 
 #[test]
 fn endings_by_the_writer(rt: HostRuntime) {
-    for row in ENDINGS {
-        ends_so(&rt, rt.alloc(), row);
+    for row in &ENDINGS {
+        ends_so(&rt, rt.alloc(), *row);
     }
 }
 
@@ -267,17 +286,24 @@ fn answers_into(
     (ended, writer.taken)
 }
 
-// A beginning of the answers is written, as long as there is room.
+// That beginning of the answers is written where there is room for no more.
+fn is_written(
+    rt: &(impl Abort + Threads + Wait + Sync),
+    alloc: Global,
+    beginning: &[u8],
+    wanted: &str,
+) {
+    let (ended, taken) = answers_into(rt, alloc, beginning.len());
+    same_bytes(rt, ended.as_bytes(), wanted.as_bytes());
+    same_bytes(rt, &taken, beginning);
+}
+
 #[test]
 fn each_failed_write(rt: HostRuntime) {
     for room in 0..REFUSED_ANSWERS.len() {
-        let (ended, taken) = answers_into(&rt, rt.alloc(), room);
-        assert_eq!(&rt; ended, "failed output");
-        assert_eq!(&rt; taken.as_slice(), &REFUSED_ANSWERS[..room]);
+        is_written(&rt, rt.alloc(), &REFUSED_ANSWERS[..room], "failed output");
     }
-    let (ended, taken) = answers_into(&rt, rt.alloc(), REFUSED_ANSWERS.len());
-    assert_eq!(&rt; ended, "done");
-    assert_eq!(&rt; taken.as_slice(), REFUSED_ANSWERS);
+    is_written(&rt, rt.alloc(), REFUSED_ANSWERS, "done");
 }
 
 // Whether a session whose kits are taken out ends for want of a kit.
@@ -298,5 +324,5 @@ fn lacks_kits(
 fn no_kit(rt: HostRuntime) {
     let mut written = Vec::new(rt.alloc());
     assert!(&rt; lacks_kits(&rt, rt.alloc(), &mut written));
-    assert_eq!(&rt; written.as_slice(), b"refused E19 1\n".as_slice());
+    same_bytes(&rt, &written, b"refused E19 1\n");
 }

@@ -8,6 +8,11 @@ pub fn same_text(rt: &impl Abort, found: &str, wanted: &str) {
     assert_eq!(rt; found, wanted);
 }
 
+/// Compares texts, which come of what is said.
+pub fn same_text_of(rt: &impl Abort, found: &str, wanted: &str, of: &str) {
+    assert_eq!(rt; found, wanted, "{of}");
+}
+
 /// Compares counts.
 pub fn same_count(rt: &impl Abort, found: usize, wanted: usize) {
     assert_eq!(rt; found, wanted);

@@ -136,7 +136,8 @@ fn accepted(script: String) -> DrawnEdit {
 
 /// One of the edits that are refused, drawn.
 fn drawn_refusal(rt: &impl Abort, alloc: Global, dice: &mut Dice) -> DrawnEdit {
-    let (script, answer) = REFUSED[dice.below(14)];
+    let edits = &REFUSED;
+    let (script, answer) = edits[dice.below(14)];
     DrawnEdit {
         script: text_of(rt, alloc, script),
         answer,
@@ -145,11 +146,12 @@ fn drawn_refusal(rt: &impl Abort, alloc: Global, dice: &mut Dice) -> DrawnEdit {
 
 /// A text of the procedure of that number, drawn.
 fn drawn_text(number: usize, dice: &mut Dice) -> &'static str {
+    let (lines, pairs, alls, mains) = (&LINES, &PAIRS, &ALLS, &MAINS);
     match number {
-        0 => LINES[dice.below(4)],
-        1 => PAIRS[dice.below(3)],
-        2 => ALLS[dice.below(3)],
-        _ => MAINS[dice.below(2)],
+        0 => lines[dice.below(4)],
+        1 => pairs[dice.below(3)],
+        2 => alls[dice.below(3)],
+        _ => mains[dice.below(2)],
     }
 }
 
@@ -160,7 +162,8 @@ pub struct Model {
     texts: [&'static str; 4],
 }
 
-fn text_of(rt: &impl Abort, alloc: Global, text: &str) -> String {
+/// A text of one's own.
+pub fn text_of(rt: &impl Abort, alloc: Global, text: &str) -> String {
     String::from_str(alloc, text).expect(rt, "memory")
 }
 

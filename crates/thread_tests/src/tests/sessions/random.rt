@@ -1,11 +1,13 @@
 //! Sessions by any edits and runs, of one to five workers or sixteen with one to six kits or many: the answers are those of the slow serial
 //! program from scratch, and what a run executes and has answered by records is what that one needs by the session's records. After each edit and
 //! each run the number of each record is what a slow count gives.
+ghost use Rattle.std.specs.Prelude.{◌<◌, ◌≤◌};
 
 use super::drawn::any_steps;
 use super::model::Model;
 use super::numbers::compare_all;
 use super::slow::{Needed, needs_of, scratch_text};
+use crate::tests::comparing::{same_count, same_text, same_text_of};
 use reuse_planner::{Blocks, Session, run_session};
 use session_kit::answers::answer_text;
 use session_kit::owners::in_session;
@@ -20,6 +22,36 @@ use threaded_driver::{NoGate, run_threads};
 use view_pool::View;
 use worker_core::RunAnswer;
 
+/// Runs a session by threads, and makes blocks of its new records behind the run.
+fn run_by_threads<V: View>(
+    rt: &(impl Abort + Threads + Wait + Sync),
+    alloc: Global,
+    session: &mut Session<V>,
+    workers: usize,
+) -> RunAnswer
+    requires workers { (0 < workers) × (workers ≤ 16) }
+{
+    session.make_blocks(Blocks::Later);
+    let (answer, _) = run_threads(rt, alloc, session, workers, &NoGate).expect(rt, "an answer");
+    session.gather(alloc);
+    session.make_blocks(Blocks::AtOnce);
+    answer
+}
+
+/// Runs a session by any steps.
+fn run_by_steps<V: View>(
+    rt: &impl Abort,
+    alloc: Global,
+    session: &mut Session<V>,
+    dice: &mut Dice,
+    workers: usize,
+) -> RunAnswer
+    requires { 0 < workers }
+{
+    let steps = any_steps(rt, alloc, session, dice, workers);
+    run_session(alloc, session, workers, &steps)
+}
+
 /// Runs a session by threads, or by any steps.
 fn any_run<V: View>(
     rt: &(impl Abort + Threads + Wait + Sync),
@@ -29,14 +61,9 @@ fn any_run<V: View>(
 ) -> RunAnswer {
     let workers = [1, 2, 3, 4, 5, 16][dice.below(6)];
     if dice.below(2) == 0 {
-        session.make_blocks(Blocks::Later);
-        let (answer, _) = run_threads(rt, alloc, session, workers, &NoGate).expect(rt, "an answer");
-        session.gather(alloc);
-        session.make_blocks(Blocks::AtOnce);
-        return answer;
+        return run_by_threads(rt, alloc, session, workers);
     }
-    let steps = any_steps(rt, alloc, session, dice, workers);
-    run_session(alloc, session, workers, &steps)
+    run_by_steps(rt, alloc, session, dice, workers)
 }
 
 /// Whether some instance was answered by a record, and whether some run ended by a fault.
@@ -52,7 +79,7 @@ fn edit<V: View>(
 ) {
     let drawn = model.edit(rt, alloc, dice);
     let found = played(alloc, session, drawn.script.as_bytes()).expect(rt, "memory");
-    assert_eq!(rt; found.lines.as_str(), drawn.answer, "{}", drawn.script);
+    same_text_of(rt, &found.lines, drawn.answer, &drawn.script);
     compare_all(rt, alloc, session);
 }
 
@@ -60,7 +87,7 @@ fn edit<V: View>(
 fn needed<V: View>(rt: &impl Abort, alloc: Global, session: &Session<V>, model: &Model) -> Needed {
     let wanted = scratch_text(rt, alloc, model);
     let needed = needs_of(rt, alloc, session, model);
-    assert_eq!(rt; needed.text.as_str(), wanted.as_str());
+    same_text(rt, &needed.text, &wanted);
     needed
 }
 
@@ -72,8 +99,8 @@ fn seen(rt: &impl Abort, answer: &RunAnswer, needed: &Needed) -> Seen {
             reused,
             ..
         } => {
-            assert_eq!(rt; *executed, needed.executed as u64);
-            assert_eq!(rt; *reused, needed.reused as u64);
+            same_count(rt, *executed as usize, needed.executed);
+            same_count(rt, *reused as usize, needed.reused);
             (*reused > 0, false)
         }
         _ => (false, true),
@@ -91,7 +118,7 @@ fn run_beside<V: View>(
     let needed = needed(rt, alloc, session, model);
     let answer = any_run(rt, alloc, session, dice);
     let text = answer_text(alloc, session.checked(), &answer).expect(rt, "memory");
-    assert_eq!(rt; text.as_str(), needed.text.as_str());
+    same_text(rt, &text, &needed.text);
     compare_all(rt, alloc, session);
     seen(rt, &answer, &needed)
 }
@@ -136,7 +163,9 @@ fn any_runs_with<V: View>(
     seed: u64,
 ) -> Seen {
     let seen = any_runs(rt, alloc, session, seed);
-    assert_eq!(rt; session.kits(), (count, count));
+    let (free, total) = session.kits();
+    same_count(rt, free, count);
+    same_count(rt, total, count);
     seen
 }
 
@@ -174,12 +203,18 @@ fn any_sessions(rt: &(impl Abort + Threads + Wait + Sync), alloc: Global, count:
     seen
 }
 
+/// In some run with so many kits an instance was answered by a record, or in none, and some run ended by a fault.
+fn is_seen(rt: &impl Abort, seen: Seen, reused: bool, count: usize) {
+    assert!(rt; seen.0 == reused && seen.1, "{count} kits");
+}
+
 /// With one kit nothing is recorded.
 #[test]
 fn any_edits_and_runs(rt: HostRuntime) {
     for count in 1..7 {
         let seen = any_sessions(&rt, rt.alloc(), count);
-        assert_eq!(&rt; seen, (count > 1, true), "{count} kits");
+        is_seen(&rt, seen, count > 1, count);
     }
-    assert_eq!(&rt; any_sessions(&rt, rt.alloc(), 64), (true, true));
+    let seen = any_sessions(&rt, rt.alloc(), 64);
+    is_seen(&rt, seen, true, 64);
 }

@@ -5,6 +5,8 @@ use super::drawn::drive;
 use super::model::Model;
 use super::programs::ALL;
 use super::slow::text_of;
+use crate::tests::comparing::same_count;
+use linked_program::checked::Checked;
 use reuse_planner::Session;
 use session_kit::answers::answer_text;
 use session_kit::owners::in_session;
@@ -27,6 +29,27 @@ struct Run {
 /// Whether there were a steal and a fold in a run.
 type Seen = (bool, bool);
 
+/// Takes any steps of a run, and then as many as lead it to its end.
+fn driven<V: View>(
+    rt: &impl Abort,
+    alloc: Global,
+    core: &mut Core<'_, V>,
+    workers: usize,
+    seed: u64,
+) -> Seen
+    requires workers { 0 < workers }
+{
+    let _steps = drive(rt, alloc, core, &mut Dice { state: seed }, workers);
+    (steals(core.history()) > 0, folds(core.history()) > 0)
+}
+
+/// What a run has come to, behind which all kits are home.
+fn ended<V: View>(rt: &impl Abort, alloc: Global, program: &Checked, core: Core<'_, V>) -> String {
+    let (answer, pool, _) = core.finish(alloc);
+    same_count(rt, pool.free(), pool.total());
+    answer_text(alloc, program, &answer).expect(rt, "memory")
+}
+
 /// Runs a session's program by any steps, and then to its end; all kits are home then.
 fn any_run<V: View>(
     rt: &impl Abort,
@@ -44,14 +67,14 @@ fn any_run<V: View>(
     let Ok(mut core) = Core::start(alloc, program, tables, records, pool, workers) else {
         panic!(rt; "not started");
     };
-    let _steps = drive(rt, alloc, &mut core, &mut Dice { state: seed }, workers);
-    let seen = (steals(core.history()) > 0, folds(core.history()) > 0);
-    let (answer, pool, _) = core.finish(alloc);
-    assert_eq!(rt; pool.free(), pool.total());
-    Run {
-        answer: answer_text(alloc, program, &answer).expect(rt, "memory"),
-        seen,
-    }
+    let seen = driven(rt, alloc, &mut core, workers, seed);
+    let answer = ended(rt, alloc, program, core);
+    Run { answer, seen }
+}
+
+/// Compares what a run by so many workers with so many kits, drawn by that seed, came to.
+fn same_answer(rt: &impl Abort, found: &str, wanted: &str, of: (usize, usize, u64)) {
+    assert_eq!(rt; found, wanted, "{} workers, {} kits, {}", of.0, of.1, of.2);
 }
 
 /// Runs a session's program several times with so many workers and kits.
@@ -68,11 +91,7 @@ fn any_runs<V: View>(
     let mut seen = (false, false);
     for seed in 0..3 {
         let run = any_run(rt, alloc, session, workers, count, seed);
-        assert_eq!(rt;
-            run.answer.as_str(),
-            wanted,
-            "{workers} workers, {count} kits, {seed}"
-        );
+        same_answer(rt, &run.answer, wanted, (workers, count, seed));
         seen = (seen.0 | run.seen.0, seen.1 | run.seen.1);
     }
     seen
@@ -92,16 +111,26 @@ fn all_runs<V: View>(rt: &impl Abort, alloc: Global, session: &Session<V>) -> Se
     seen
 }
 
+/// In some run there was a steal, and in some a fold.
+fn are_seen(rt: &impl Abort, seen: Seen, text: &str) {
+    assert!(rt; seen.0 && seen.1, "{text}");
+}
+
+/// Runs the program that a text is so.
+fn gives_the_serial_answer(rt: &impl Abort, alloc: Global, text: &str) {
+    let seen = in_session(
+        alloc,
+        text,
+        SALES,
+        1,
+        |session| all_runs(rt, alloc, session),
+    );
+    are_seen(rt, seen.expect(rt, "a session"), text);
+}
+
 #[test]
 fn any_steps_give_the_serial_answer(rt: HostRuntime) {
-    for text in ALL {
-        let seen = in_session(
-            rt.alloc(),
-            text,
-            SALES,
-            1,
-            |session| all_runs(&rt, rt.alloc(), session),
-        );
-        assert_eq!(&rt; seen, Some((true, true)), "{text}");
+    for text in &ALL {
+        gives_the_serial_answer(&rt, rt.alloc(), text);
     }
 }

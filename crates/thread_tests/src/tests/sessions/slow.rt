@@ -1,7 +1,7 @@
 //! What the slow serial program makes of a session's program and tables, from scratch and by the session's records.
 
 use super::fitting::are_fit;
-use super::model::Model;
+use super::model::{self, Model};
 use evaluation::note::Note;
 use input_tables::Tables;
 use instance_records::gift::Gift;
@@ -13,7 +13,7 @@ use reuse_planner::Session;
 use serial_oracle::{
     Answer, Reading, Revision, Revisions, TableRows, from_scratch, needed_instances,
 };
-use std::alloc::{AllocError, Global};
+use std::alloc::Global;
 use std::process::Abort;
 use trace_report::answers::{push_fault, push_result, push_values};
 use view_pool::View;
@@ -111,30 +111,31 @@ fn revisions(rt: &impl Abort, alloc: Global, program: &Checked) -> Revisions {
 }
 
 /// The name of the table of that number.
-fn table_name(alloc: Global, tables: &Tables, table: usize) -> Result<String, AllocError> {
+fn table_name(rt: &impl Abort, alloc: Global, tables: &Tables, table: usize) -> String {
     if table < tables.count() {
-        return String::from_str(alloc, tables.name(table));
+        return model::text_of(rt, alloc, tables.name(table));
     }
-    Ok(String::new(alloc))
+    String::new(alloc)
 }
 
 /// The name of the column of that number in the table of that number.
 fn column_name(
+    rt: &impl Abort,
     alloc: Global,
     tables: &Tables,
     table: usize,
     column: usize,
-) -> Result<String, AllocError> {
+) -> String {
     if table < tables.count() {
         if let Some(name) = tables.columns(table).get(column) {
-            return String::from_str(alloc, name);
+            return model::text_of(rt, alloc, name);
         }
     }
-    Ok(String::new(alloc))
+    String::new(alloc)
 }
 
 /// A reading by names.
-fn reading(alloc: Global, tables: &Tables, note: &Note) -> Result<Reading, AllocError> {
+fn reading(rt: &impl Abort, alloc: Global, tables: &Tables, note: &Note) -> Reading {
     match note {
         Note::Cell {
             table,
@@ -142,26 +143,24 @@ fn reading(alloc: Global, tables: &Tables, note: &Note) -> Result<Reading, Alloc
             column,
             value,
         } => {
-            let name = table_name(alloc, tables, *table)?;
-            let column = column_name(alloc, tables, *table, *column)?;
-            Ok(Reading::Cell(name, *row, column, *value))
+            let name = table_name(rt, alloc, tables, *table);
+            let column = column_name(rt, alloc, tables, *table, *column);
+            Reading::Cell(name, *row, column, *value)
         }
         Note::Has { table, row, found } => {
-            let name = table_name(alloc, tables, *table)?;
-            Ok(Reading::Has(name, *row, *found))
+            Reading::Has(table_name(rt, alloc, tables, *table), *row, *found)
         }
         Note::Limit { table, value } => {
-            let name = table_name(alloc, tables, *table)?;
-            Ok(Reading::Limit(name, *value))
+            Reading::Limit(table_name(rt, alloc, tables, *table), *value)
         }
         Note::Sum {
             table,
             column,
             value,
         } => {
-            let name = table_name(alloc, tables, *table)?;
-            let column = column_name(alloc, tables, *table, *column)?;
-            Ok(Reading::Sum(name, column, *value))
+            let name = table_name(rt, alloc, tables, *table);
+            let column = column_name(rt, alloc, tables, *table, *column);
+            Reading::Sum(name, column, *value)
         }
     }
 }
@@ -171,7 +170,7 @@ fn readings(rt: &impl Abort, alloc: Global, tables: &Tables, record: &Record) ->
     let notes = record.reads().notes(alloc).expect(rt, "memory");
     let mut read = Vec::new(alloc);
     for note in &notes {
-        let reading = reading(alloc, tables, note).expect(rt, "memory");
+        let reading = reading(rt, alloc, tables, note);
         read.push(reading).expect(rt, "memory");
     }
     read

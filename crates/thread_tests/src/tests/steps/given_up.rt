@@ -2,13 +2,14 @@
 ghost use Rattle.std.specs.Prelude.{◌≡◌, All};
 
 use super::playing::{Played, play_over, take_all};
+use crate::tests::comparing::{counted, same_count};
 use monoid_laws::Kind;
 use reuse_planner::Session;
 use session_kit::owners::in_session;
 use std::alloc::{AllocError, Global};
 use std::process::Abort;
 use std::sync::Arc;
-use std::sync::atomic::{AtomicUsize, Ordering};
+use std::sync::atomic::AtomicUsize;
 use test_kit::beginnings::kits_by;
 use test_kit::refusing::{Refuses, Stubborn};
 use test_kit::texts::{FIRST_LIST, SALES};
@@ -58,12 +59,7 @@ fn over_boxes<W: View>(rt: &impl Abort, alloc: Global, session: &Session<W>, row
     let make = |_kind: Kind| boxed(alloc, refuses, &drops);
     let played = over_lists(rt, alloc, session, row.2, &make);
     led_to(rt, &played, row);
-    is_count(rt, &drops, row.7);
-}
-
-/// Compares a count of drops.
-fn is_count(rt: &impl Abort, drops: &AtomicUsize, wanted: usize) {
-    assert_eq!(rt; drops.load(Ordering::SeqCst), wanted);
+    same_count(rt, counted(&drops), row.7);
 }
 
 /// Runs the row in a session of its own program, over kits in boxes.
@@ -215,7 +211,7 @@ fn drops_each<W: View>(rt: &impl Abort, alloc: Global, session: &Session<W>, lin
     let make = |_kind: Kind| Stubborn::new(alloc, Refuses::Nothing, &drops);
     let kits = kits_by(alloc, session.checked().kinds(), 2, &make).expect(rt, "kits");
     let_go(rt, alloc, session, Pool::new(kits), line);
-    is_count(rt, &drops, 2);
+    same_count(rt, counted(&drops), 2);
 }
 
 fn all_are_dropped<W: View>(rt: &impl Abort, alloc: Global, session: &Session<W>) {

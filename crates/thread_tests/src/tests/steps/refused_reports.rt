@@ -3,13 +3,14 @@
 
 use super::refused::{is_so, state_of};
 use super::words::steps;
+use crate::tests::comparing::{counted, same_count};
 use reuse_planner::{Session, run_session};
 use session_kit::answers::answer_text;
 use session_kit::owners::{in_session, in_session_of_lists};
 use std::alloc::Global;
 use std::process::Abort;
 use std::sync::Arc;
-use std::sync::atomic::{AtomicUsize, Ordering};
+use std::sync::atomic::AtomicUsize;
 use test_kit::refusing::Refuses;
 use test_kit::texts::{AFFINE, FIRST_LIST, MEMO_LIST, NESTED_READS, SALES, TWO_FAULTS};
 use view_pool::View;
@@ -117,7 +118,7 @@ fn lists_are_dropped(rt: &impl Abort, alloc: Global, row: Row) {
         |session| one_is_done(rt, alloc, session, row),
     );
     done.expect(rt, "a session");
-    assert_eq!(rt; drops.load(Ordering::SeqCst), row.2);
+    same_count(rt, counted(&drops), row.2);
 }
 
 #[test]

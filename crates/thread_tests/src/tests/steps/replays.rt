@@ -1,6 +1,7 @@
 //! What histories leave, or the first step that isn't allowed; and what is said where a book refuses a step.
 
 use super::histories::replayed;
+use crate::tests::comparing::same_text;
 use std::alloc::Global;
 use std::process::Abort;
 use sync_fold::BookError;
@@ -57,23 +58,17 @@ const BAD: [(&str, &str); 28] = [
     ("Sr11 S122 L2 E1 F120", "step 4 is not allowed"),
 ];
 
-/// Compares texts.
-fn is_same(rt: &impl Abort, found: &str, wanted: &str) {
-    assert_eq!(rt; found, wanted);
-}
-
-fn comes_to(rt: &impl Abort, alloc: Global, history: &str, wanted: &str) {
-    is_same(rt, &replayed(rt, alloc, history), wanted);
+/// Compares what histories come to.
+fn come_to(rt: &impl Abort, alloc: Global, rows: &[(&'static str, &'static str)]) {
+    for row in rows {
+        same_text(rt, &replayed(rt, alloc, row.0), row.1);
+    }
 }
 
 #[test]
 fn histories_are_replayed(rt: HostRuntime) {
-    for row in &LEGAL {
-        comes_to(&rt, rt.alloc(), row.0, row.1);
-    }
-    for row in &BAD {
-        comes_to(&rt, rt.alloc(), row.0, row.1);
-    }
+    come_to(&rt, rt.alloc(), &LEGAL);
+    come_to(&rt, rt.alloc(), &BAD);
 }
 
 const SAID: [(BookError, &str); 5] = [
@@ -86,12 +81,12 @@ const SAID: [(BookError, &str); 5] = [
 
 fn says(rt: &impl Abort, alloc: Global, error: BookError, wanted: &str) {
     let said = format!(in alloc; "{error}").expect(rt, "memory");
-    is_same(rt, &said, wanted);
+    same_text(rt, &said, wanted);
 }
 
 #[test]
 fn what_a_book_says(rt: HostRuntime) {
-    for (error, wanted) in SAID {
-        says(&rt, rt.alloc(), error, wanted);
+    for row in &SAID {
+        says(&rt, rt.alloc(), row.0, row.1);
     }
 }

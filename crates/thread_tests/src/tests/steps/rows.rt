@@ -1,6 +1,7 @@
 //! Programs, lines of steps, and where these lead.
 
-use super::playing::play;
+use super::playing::{Played, play};
+use crate::tests::comparing::{same_text, same_text_of};
 use std::alloc::Global;
 use std::process::Abort;
 use test_kit::texts::{
@@ -212,11 +213,15 @@ const ROWS: [Row; 18] = [
     ),
 ];
 
+/// Compares what the line of a row led to.
+fn led_so(rt: &impl Abort, played: &Played, row: Row) {
+    assert!(rt; played.leads_to(row.4, row.5), "after {}", row.3);
+    same_text(rt, &played.history, row.6);
+}
+
 fn leads_so(rt: &impl Abort, alloc: Global, row: Row) {
-    let (text, workers, count, line, refused, answer, history) = row;
-    let played = play(rt, alloc, text, workers, count, line);
-    assert!(rt; played.leads_to(refused, answer), "after {line}");
-    assert_eq!(rt; played.history.as_str(), history);
+    let played = play(rt, alloc, row.0, row.1, row.2, row.3);
+    led_so(rt, &played, row);
 }
 
 #[test]
@@ -241,7 +246,7 @@ const STANDING: [(&str, &str, &str); 5] = [
 
 fn stands_so(rt: &impl Abort, alloc: Global, text: &str, line: &str, strands: &str) {
     let played = play(rt, alloc, text, 3, 3, line);
-    assert_eq!(rt; played.strands.as_str(), strands, "after {line}");
+    same_text_of(rt, &played.strands, strands, line);
 }
 
 #[test]
@@ -303,7 +308,7 @@ fn is_refused_so(
     refused: &str,
 ) {
     let played = play(rt, alloc, FIRST_LIST, workers, count, line);
-    assert_eq!(rt; played.refused.as_str(), refused, "after {line}");
+    same_text_of(rt, &played.refused, refused, line);
 }
 
 #[test]

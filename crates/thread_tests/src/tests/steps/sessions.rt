@@ -1,6 +1,7 @@
 //! Runs of a session by lines of steps, and commands.
 
 use super::words::steps;
+use crate::tests::comparing::{same_count, same_text, same_text_of};
 use reuse_planner::{Command, Session, play_session, run_session};
 use session_edits::Edit;
 use session_kit::answers::counted_text;
@@ -27,7 +28,7 @@ fn led<V: View>(
 ) -> String {
     let steps = steps(rt, alloc, line);
     let answer = run_session(alloc, session, workers, &steps);
-    assert_eq!(rt; session.last_inlined(), 0);
+    same_count(rt, session.last_inlined(), 0);
     counted_text(alloc, session.checked(), &answer).expect(rt, "memory")
 }
 
@@ -41,7 +42,7 @@ fn comes_to<V: View>(
     wanted: &str,
 ) {
     let came = led(rt, alloc, session, workers, line);
-    assert_eq!(rt; came.as_str(), wanted, "after {line}");
+    same_text_of(rt, &came, wanted, line);
 }
 
 /// A program, how many workers and kits, a line with what a run by it comes to, and a second line with what the next run comes to.
@@ -100,13 +101,20 @@ const ROWS: [Row; 9] = [
     ),
 ];
 
+/// So many kits are there, and all are free.
+fn are_free<V: View>(rt: &impl Abort, session: &Session<V>, count: usize) {
+    let (free, total) = session.kits();
+    same_count(rt, free, count);
+    same_count(rt, total, count);
+}
+
 /// Compares what two runs come to; after each all kits are free.
 fn come_to<V: View>(rt: &impl Abort, alloc: Global, session: &mut Session<V>, row: Row) {
     let (_, workers, count, first, found, second, found_next) = row;
     comes_to(rt, alloc, session, workers, first, found);
-    assert_eq!(rt; session.kits(), (count, count));
+    are_free(rt, session, count);
     comes_to(rt, alloc, session, workers, second, found_next);
-    assert_eq!(rt; session.kits(), (count, count));
+    are_free(rt, session, count);
 }
 
 fn two_runs(rt: &impl Abort, alloc: Global, row: Row) {
@@ -182,8 +190,8 @@ fn are_answered<V: View>(rt: &impl Abort, alloc: Global, session: &mut Session<V
     let commands = some_commands(rt, alloc);
     let lines = played_lines(rt, alloc, session, &commands);
     let wanted = "result 3\nseen 1 2 9\nok\nok\nresult 3\nseen 11 12 9\nrefused E4\nunfinished\n";
-    assert_eq!(rt; lines.as_str(), wanted);
-    assert_eq!(rt; session.tables().edit_number(), 1);
+    same_text(rt, &lines, wanted);
+    same_count(rt, session.tables().edit_number() as usize, 1);
 }
 
 #[test]
