@@ -188,8 +188,8 @@ fn with_two(kinds: &[Kind], first: Flat, second: Flat, gifts: &[Gift]) -> Option
     Some((one, two))
 }
 
-// The same where a record gave one of them nothing, or both, as many do.
-#[inline(never)]
+// The same where a record gave one of them nothing, or both, as many do. Behind a call both values would be in memory for all records.
+#[inline(always)]
 #[tactic(auto, using(crate::proofs::FlatSums::none_combined))]
 fn with_fewer(kinds: &[Kind], first: Flat, second: Flat, gifts: &[Gift]) -> Option<(Flat, Flat)>
     requires two { length kinds.now ≡ 2 }

@@ -4,3 +4,4 @@ pub mod AnsweredChains
 pub mod Outcomes
 pub mod HalfSettled
 pub mod Kept
+pub mod Own

@@ -1,5 +1,6 @@
 -- Iterations of a loop over a memo procedure of which records answer some, and the others are recorded.
-use Rattle.std.specs.Prelude.{◌≡◌, ℕ, ◌-◌, ℤ, pos, ◌+ℤ◌, List, [], ◌∷◌, length, Some}
+use Rattle.std.specs.Prelude.{◌≡◌, ℕ, ◌-◌, ℤ, pos, ◌+ℤ◌, List, [], ◌∷◌, length, Option, None, Some}
+use Rattle.monoid_laws.specs.declared.Kind.{Kind}
 use Rattle.meaning.specs.Elision.{depth_limit}
 use Rattle.record_theory.specs.Record.{PlainRecord}
 use Rattle.positions.specs.Layers.{PlainLayer}
@@ -9,6 +10,7 @@ use Rattle.positions.specs.Tallies.{PlainTally}
 use Rattle.positions.specs.Advance.{record_for}
 use Rattle.answered_loops.specs.Answered.{absorbed, answered_more}
 use Rattle.own_statements.specs.Leaves.{PlainLeaf, IsLeaf}
+use Rattle.running_ahead.specs.Leaves.{IsRefusedLeaf}
 
 -- these records answer instances of a procedure at that depth, whose only arguments are the numbers from that one on
 abbrev pub AnswerFrom : Setting → ℕ → ℕ → ℤ → List PlainRecord → Type 0
@@ -35,3 +37,13 @@ pub record IsRefusedTurn (s t : PlainStrand) : Type 0 where
   pub kinds : t.layer.kinds ≡ s.layer.kinds
   pub opened : t.tally.opened ≡ s.tally.opened
   pub phase : t.phase ≡ s.phase
+
+-- the layer for those that are recorded is there, and of these kinds
+abbrev pub IsOwn : List Kind → Option PlainLayer → Type 0
+IsOwn kinds None = ⊥
+IsOwn kinds (Some own) = own.kinds ≡ kinds
+
+-- memory was refused: where that layer isn't there any more, when it became a record
+abbrev pub IsRefusedBy : Option PlainLayer → PlainStrand → PlainStrand → Type 0
+IsRefusedBy None s t = IsRefusedLeaf s t
+IsRefusedBy (Some own) s t = IsRefusedTurn s t

@@ -1,5 +1,6 @@
 //! Iterations one after another in a run that has records: those that records answer are taken over, and each other one is recorded at once.
-ghost use Rattle.std.specs.Prelude.{◌≡◌, ◌∷◌, ◌-◌, ◌≤◌, ◌<◌, ◌==◌, [], true, false, None, All, IfErr, IfNone, IfOk, IfSome, OnErr, OnOk, OnSome, length, map};
+ghost use Rattle.std.specs.Prelude.{◌≡◌, ◌∷◌, ◌-◌, ◌≤◌, ◌<◌, ◌==◌, [], true, false, None, Some, length, map};
+ghost use Rattle.std.specs.Prelude.{All, IfErr, IfNone, IfOk, IfSome, OnErr, OnOk, OnSome};
 ghost use Rattle.monoid_laws.specs.Kinds.{AreWorths, IsMonoid};
 ghost use Rattle.meaning.specs.Elision.{depth_limit};
 ghost use Rattle.linked_program.specs.CodeView.{expression as plain, memo_of};
@@ -13,7 +14,7 @@ ghost use Rattle.activations.specs.Given.{lent, loop_of};
 ghost use Rattle.answered_loops.specs.Answered.{answered_more};
 ghost use Rattle.own_statements.specs.Fills.{IsCounted};
 ghost use Rattle.own_statements.specs.Runs.{IsBody};
-ghost use Rattle.recording_ahead.specs.AnsweredChains.{ArePassed, AreTaken, IsRefusedTurn};
+ghost use Rattle.recording_ahead.specs.AnsweredChains.{ArePassed, AreTaken, IsOwn, IsRefusedBy, IsRefusedTurn};
 ghost use Rattle.own_statements.specs.Leaves.{plain_leaf};
 ghost use Rattle.running_ahead.specs.Leaves.{AreRecorded, IsRefusedLeaf, arguments_then, gathered_of};
 
@@ -77,21 +78,26 @@ pub(crate) fn chain_through<V: View>(
         → HaveValues setting.entry.program.now.kinds machine.new.tally.made }
 {
     // One layer serves for all that are recorded: to make one anew takes a third as long as a record.
-    let own = match open_own(machine, alloc, setting, kit) {
-        Ok(own) => own,
+    let mut own = match open_own(machine, alloc, setting, kit) {
+        Ok(own) => Some(own),
         Err(kit) => return Ok((0, kit)),
     };
-    let came = chain_in(machine, alloc, setting, code, stretch, own);
+    let came = chain_in(machine, alloc, setting, code, stretch, &mut own);
     match came {
-        Ok((done, own)) => {
-            let kit = close_own(machine, own);
-            Ok((done, kit))
-        }
-        Err(Some(own)) => {
-            let back = close_own(machine, own);
-            Err(Some(back))
-        }
-        Err(None) => Err(None),
+        Ok(done) => match own {
+            Some(own) => {
+                let kit = close_own(machine, own);
+                Ok((done, kit))
+            }
+            None => Err(None),
+        },
+        Err(_) => match own {
+            Some(own) => {
+                let back = close_own(machine, own);
+                Err(Some(back))
+            }
+            None => Err(None),
+        },
     }
 }
 
@@ -121,7 +127,7 @@ fn close_own<V: View>(machine: &mut Machine<V>, own: Layer<V>) -> Kit<V>
     own.close_in(&mut machine.lists)
 }
 
-/// The same over such a layer, which is handed back. The layer that was to become a record isn't.
+/// The same over such a layer, which is taken where it was to become a record.
 #[inline(always)]
 fn chain_in<V: View>(
     machine: &mut Machine<V>,
@@ -129,30 +135,29 @@ fn chain_in<V: View>(
     setting: Setting<'_>,
     code: LoopCode<'_>,
     stretch: Stretch,
-    own: Layer<V>,
-) -> Result<(u32, Layer<V>), Option<Layer<V>>>
+    own: &mut Option<Layer<V>>,
+) -> Result<u32, AllocError>
     requires fits { ShareFits stretch.site stretch.share }
     requires some { stretch.most ≤ stretch.share.count }
     requires found { loop_of code ≡ loop_at setting.program.now.codes machine.old.top.procedure stretch.site }
     requires memo { memo_of setting.program.now.codes code.callee ≡ true }
     requires deep { (machine.old.top.left == 0) ≡ false }
     requires counted { IsCounted machine.old.top.slots code.variable (map plain code.arguments.now) }
-    requires blank { own ≡ blank true setting.program.now.kinds (length setting.program.now.codes) }
+    requires blank { own.old ≡ Some (blank true setting.program.now.kinds (length setting.program.now.codes)) }
     requires kinds { machine.old.layer.kinds ≡ setting.program.now.kinds }
     requires monoids { All IsMonoid setting.program.now.kinds }
     requires answers { HaveValues setting.program.now.kinds setting.records.now }
     ensures records { IfOk result (λ done. AreRecorded (lent setting.entry) stretch.site
         machine.old.top.procedure machine.old.top.slots machine.old.top.left stretch.share.first
-        (gathered_of machine.old machine.old.arguments) done.0
-        (gathered_of machine.new (arguments_then done.0 stretch.site stretch.share machine.old.arguments))) }
+        (gathered_of machine.old machine.old.arguments) done
+        (gathered_of machine.new (arguments_then done stretch.site stretch.share machine.old.arguments))) }
     ensures others { OnOk result
         (machine.new ≡ record machine.old { layer = machine.new.layer; tally = machine.new.tally }) }
     ensures opened { OnOk result (machine.new.tally.opened ≡ machine.old.tally.opened) }
-    ensures some { IfOk result (λ done. done.0 ≤ stretch.most) }
-    ensures own_kinds { IfOk result (λ done. done.1.kinds ≡ setting.entry.program.now.kinds) }
-    ensures own_back { IfErr result (λ e. IfSome e (λ o. o.kinds ≡ setting.entry.program.now.kinds)) }
-    ensures turn { IfErr result (λ e. OnSome e (IsRefusedTurn machine.old machine.new)) }
-    ensures leaf { IfErr result (λ e. IfNone e (IsRefusedLeaf machine.old machine.new)) }
+    ensures some { IfOk result (λ done. done ≤ stretch.most) }
+    ensures own { OnOk result (IsOwn setting.entry.program.now.kinds own.new) }
+    ensures kept { OnErr result (IfSome own.new (λ o. o.kinds ≡ setting.entry.program.now.kinds)) }
+    ensures refused { OnErr result (IsRefusedBy own.new machine.old machine.new) }
     ensures kinds { machine.new.layer.kinds ≡ machine.old.layer.kinds }
     ensures values { HaveValues setting.entry.program.now.kinds machine.old.tally.made
         → HaveValues setting.entry.program.now.kinds machine.new.tally.made }
@@ -173,43 +178,43 @@ fn chain_in<V: View>(
         body,
     };
     match record_chain(machine, setting, first, stretch.most, own) {
-        Ok((count, _, back)) => Ok((count, back)),
-        Err(_) => Err(None),
+        Ok((count, _)) => Ok(count),
+        Err(error) => Err(error),
     }
 }
 
 /// The same where there are records.
 #[inline(never)]
+#[tactic(auto, using(crate::proofs::Own::own_there))]
 fn answered_chain<V: View>(
     machine: &mut Machine<V>,
     alloc: Global,
     setting: Setting<'_>,
     code: LoopCode<'_>,
     stretch: Stretch,
-    own: Layer<V>,
-) -> Result<(u32, Layer<V>), Option<Layer<V>>>
+    own: &mut Option<Layer<V>>,
+) -> Result<u32, AllocError>
     requires fits { ShareFits stretch.site stretch.share }
     requires some { stretch.most ≤ stretch.share.count }
     requires found { loop_of code ≡ loop_at setting.program.now.codes machine.old.top.procedure stretch.site }
     requires memo { memo_of setting.program.now.codes code.callee ≡ true }
     requires deep { (machine.old.top.left == 0) ≡ false }
     requires counted { IsCounted machine.old.top.slots code.variable (map plain code.arguments.now) }
-    requires blank { own ≡ blank true setting.program.now.kinds (length setting.program.now.codes) }
+    requires blank { own.old ≡ Some (blank true setting.program.now.kinds (length setting.program.now.codes)) }
     requires kinds { machine.old.layer.kinds ≡ setting.program.now.kinds }
     requires monoids { All IsMonoid setting.program.now.kinds }
     requires answers { HaveValues setting.program.now.kinds setting.records.now }
     ensures records { IfOk result (λ done. AreRecorded (lent setting.entry) stretch.site
         machine.old.top.procedure machine.old.top.slots machine.old.top.left stretch.share.first
-        (gathered_of machine.old machine.old.arguments) done.0
-        (gathered_of machine.new (arguments_then done.0 stretch.site stretch.share machine.old.arguments))) }
+        (gathered_of machine.old machine.old.arguments) done
+        (gathered_of machine.new (arguments_then done stretch.site stretch.share machine.old.arguments))) }
     ensures others { OnOk result
         (machine.new ≡ record machine.old { layer = machine.new.layer; tally = machine.new.tally }) }
     ensures opened { OnOk result (machine.new.tally.opened ≡ machine.old.tally.opened) }
-    ensures some { IfOk result (λ done. done.0 ≤ stretch.most) }
-    ensures own_kinds { IfOk result (λ done. done.1.kinds ≡ setting.entry.program.now.kinds) }
-    ensures own_back { IfErr result (λ e. IfSome e (λ o. o.kinds ≡ setting.entry.program.now.kinds)) }
-    ensures turn { IfErr result (λ e. OnSome e (IsRefusedTurn machine.old machine.new)) }
-    ensures leaf { IfErr result (λ e. IfNone e (IsRefusedLeaf machine.old machine.new)) }
+    ensures some { IfOk result (λ done. done ≤ stretch.most) }
+    ensures own { OnOk result (IsOwn setting.entry.program.now.kinds own.new) }
+    ensures kept { OnErr result (IfSome own.new (λ o. o.kinds ≡ setting.entry.program.now.kinds)) }
+    ensures refused { OnErr result (IsRefusedBy own.new machine.old machine.new) }
     ensures kinds { machine.new.layer.kinds ≡ machine.old.layer.kinds }
     ensures values { HaveValues setting.entry.program.now.kinds machine.old.tally.made
         → HaveValues setting.entry.program.now.kinds machine.new.tally.made }
@@ -218,12 +223,11 @@ fn answered_chain<V: View>(
     let size = setting.program.slots(callee);
     let left = machine.top.left() - 1;
     let body = instructions(setting.program, callee, 0, 0);
-    let mut own = own;
     let mut done = 0;
     let mut near = stretch.share.first as usize;
     for _ in 0..stretch.most {
         if done == stretch.most {
-            return Ok((done, own));
+            return Ok(done);
         }
         let leaf = Leaf {
             callee,
@@ -237,18 +241,17 @@ fn answered_chain<V: View>(
             near,
         };
         match go_on(machine, alloc, setting, leaf, ahead, own) {
-            Ok((passed, is_blank, back)) => {
-                own = back;
+            Ok((passed, is_blank)) => {
                 done += passed.count;
                 if stops(passed.count, is_blank) {
-                    return Ok((done, own));
+                    return Ok(done);
                 }
                 near = passed.near;
             }
-            Err(refused) => return Err(refused),
+            Err(error) => return Err(error),
         }
     }
-    Ok((done, own))
+    Ok(done)
 }
 
 /// Whether it doesn't go on behind so many iterations that are over: there are none, or something is noted in the layer.
@@ -259,20 +262,21 @@ fn stops(count: u32, is_blank: bool) -> bool
     count == 0 || !is_blank
 }
 
-/// The iterations from that one on that records answer together, or that one alone, which is recorded. How many are over, whether nothing is
-/// noted in the layer again that is for records, and that layer; where none is over, nothing else has changed.
+/// The iterations from that one on that records answer together, or that one alone, which is recorded. How many are over, and whether
+/// nothing is noted in the layer again that is for records; where none is over, nothing else has changed.
 #[inline(always)]
+#[tactic(auto, using(crate::proofs::Own::own_there, crate::proofs::Own::own_kept))]
 fn go_on<V: View>(
     machine: &mut Machine<V>,
     alloc: Global,
     setting: Setting<'_>,
     leaf: Leaf<'_>,
     ahead: Ahead,
-    own: Layer<V>,
-) -> Result<(Passed, bool, Layer<V>), Option<Layer<V>>>
+    own: &mut Option<Layer<V>>,
+) -> Result<(Passed, bool), AllocError>
     requires body { IsBody setting.program.now.codes leaf.callee leaf.body.now }
     requires some { 0 < ahead.most }
-    requires blank { own ≡ blank true setting.program.now.kinds (length setting.program.now.codes) }
+    requires blank { own.old ≡ Some (blank true setting.program.now.kinds (length setting.program.now.codes)) }
     requires kinds { machine.old.layer.kinds ≡ setting.program.now.kinds }
     requires monoids { All IsMonoid setting.program.now.kinds }
     requires answers { HaveValues setting.program.now.kinds setting.records.now }
@@ -282,11 +286,10 @@ fn go_on<V: View>(
     ensures others { OnOk result
         (machine.new ≡ record machine.old { layer = machine.new.layer; tally = machine.new.tally }) }
     ensures blank { IfOk result (λ p. p.1 ≡ true
-        → p.2 ≡ blank true setting.entry.program.now.kinds (length setting.entry.program.now.codes)) }
-    ensures own_kinds { IfOk result (λ p. p.2.kinds ≡ setting.entry.program.now.kinds) }
-    ensures own_back { IfErr result (λ e. IfSome e (λ o. o.kinds ≡ setting.entry.program.now.kinds)) }
-    ensures turn { IfErr result (λ e. OnSome e (IsRefusedTurn machine.old machine.new)) }
-    ensures leaf { IfErr result (λ e. IfNone e (IsRefusedLeaf machine.old machine.new)) }
+        → own.new ≡ Some (blank true setting.entry.program.now.kinds (length setting.entry.program.now.codes))) }
+    ensures own { OnOk result (IsOwn setting.entry.program.now.kinds own.new) }
+    ensures kept { OnErr result (IfSome own.new (λ o. o.kinds ≡ setting.entry.program.now.kinds)) }
+    ensures refused { OnErr result (IsRefusedBy own.new machine.old machine.new) }
     ensures kinds { machine.new.layer.kinds ≡ machine.old.layer.kinds }
     ensures values { HaveValues setting.entry.program.now.kinds machine.old.tally.made
         → HaveValues setting.entry.program.now.kinds machine.new.tally.made }
@@ -294,8 +297,8 @@ fn go_on<V: View>(
     let keeps = keeps_reads(machine);
     match answers_from(setting, leaf, ahead, keeps) {
         Some(batch) => match take_on(machine, alloc, setting, leaf, ahead, batch) {
-            Ok(passed) => Ok((passed, true, own)),
-            Err(_) => Err(Some(own)),
+            Ok(passed) => Ok((passed, true)),
+            Err(error) => Err(error),
         },
         None => record_next(machine, setting, leaf, ahead, own),
     }
@@ -422,12 +425,12 @@ fn record_next<V: View>(
     setting: Setting<'_>,
     leaf: Leaf<'_>,
     ahead: Ahead,
-    own: Layer<V>,
-) -> Result<(Passed, bool, Layer<V>), Option<Layer<V>>>
+    own: &mut Option<Layer<V>>,
+) -> Result<(Passed, bool), AllocError>
     requires body { IsBody setting.program.now.codes leaf.callee leaf.body.now }
     requires some { 0 < ahead.most }
     requires unknown { record_for (lent setting) (depth_limit - leaf.left) leaf.callee (leaf.number ∷ []) ≡ None }
-    requires blank { own ≡ blank true setting.program.now.kinds (length setting.program.now.codes) }
+    requires blank { own.old ≡ Some (blank true setting.program.now.kinds (length setting.program.now.codes)) }
     requires kinds { machine.old.layer.kinds ≡ setting.program.now.kinds }
     requires monoids { All IsMonoid setting.program.now.kinds }
     ensures passed { IfOk result (λ p. ArePassed (lent setting.entry) (plain_leaf leaf.entry) p.0.count
@@ -436,23 +439,22 @@ fn record_next<V: View>(
     ensures others { OnOk result
         (machine.new ≡ record machine.old { layer = machine.new.layer; tally = machine.new.tally }) }
     ensures blank { IfOk result (λ p. p.1 ≡ true
-        → p.2 ≡ blank true setting.entry.program.now.kinds (length setting.entry.program.now.codes)) }
-    ensures own_kinds { IfOk result (λ p. p.2.kinds ≡ setting.entry.program.now.kinds) }
-    ensures own_back { IfErr result (λ e. IfSome e (λ o. o.kinds ≡ setting.entry.program.now.kinds)) }
-    ensures turn { IfErr result (λ e. OnSome e (IsRefusedTurn machine.old machine.new)) }
-    ensures leaf { IfErr result (λ e. IfNone e (IsRefusedLeaf machine.old machine.new)) }
+        → own.new ≡ Some (blank true setting.entry.program.now.kinds (length setting.entry.program.now.codes))) }
+    ensures own { OnOk result (IsOwn setting.entry.program.now.kinds own.new) }
+    ensures kept { OnErr result (IfSome own.new (λ o. o.kinds ≡ setting.entry.program.now.kinds)) }
+    ensures refused { OnErr result (IsRefusedBy own.new machine.old machine.new) }
     ensures kinds { machine.new.layer.kinds ≡ machine.old.layer.kinds }
     ensures values { HaveValues setting.entry.program.now.kinds machine.old.tally.made
         → HaveValues setting.entry.program.now.kinds machine.new.tally.made }
 {
     match record_chain(machine, setting, leaf, 1, own) {
-        Ok((count, is_blank, back)) => {
+        Ok((count, is_blank)) => {
             let passed = Passed {
                 count,
                 near: ahead.near.wrapping_add(1),
             };
-            Ok((passed, is_blank, back))
+            Ok((passed, is_blank))
         }
-        Err(_) => Err(None),
+        Err(error) => Err(error),
     }
 }

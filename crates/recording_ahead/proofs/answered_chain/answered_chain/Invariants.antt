@@ -1,4 +1,4 @@
-use Rattle.std.proofs.Common.{◌≡◌, ◌≤◌, true, length}
+use Rattle.std.proofs.Common.{◌≡◌, ◌≤◌, true, Some, length}
 use Rattle.positions.specs.Layers.{blank}
 use Rattle.record_theory.specs.Named.{HaveValues}
 use Rattle.activations.specs.Given.{lent}
@@ -12,7 +12,7 @@ invariant-loop g l = record {
   few : l.done ≤ l.stretch.most;
   others : l.machine ≡ record l.fn.machine { layer = l.machine.layer; tally = l.machine.tally };
   opened : l.machine.tally.opened ≡ l.fn.machine.tally.opened;
-  blank : l.own ≡ blank true l.setting.program.now.kinds (length l.setting.program.now.codes);
+  blank : l.own ≡ Some (blank true l.setting.program.now.kinds (length l.setting.program.now.codes));
   kinds : l.machine.layer.kinds ≡ l.fn.machine.layer.kinds;
   values : HaveValues l.setting.program.now.kinds l.fn.machine.tally.made → HaveValues l.setting.program.now.kinds l.machine.tally.made;
 }

@@ -7,6 +7,7 @@ use Rattle.own_statements.specs.Leaves.{AreLeaves}
 use Rattle.own_statements.proofs.LeavesOpened.{leaves_opened}
 use Rattle.recording_ahead.proofs.LeafChains.{leaf_of, leaves_at, leaves_recorded}
 use Rattle.recording_ahead.proofs.LeafSteps.{no_record}
+use Rattle.recording_ahead.proofs.Own.{none_kept, leaf_refused}
 use Rattle.recording_ahead.proofs.answered_chain.chain_in.Goals as goal
 
 pub record_chain-requires-clause-unknown : goal.record_chain-requires-clause-unknown
@@ -35,3 +36,9 @@ returns-in-Ok-clause-opened g c =
     let m : PlainStrand = c.args.machine.now in
     let after = c.record_chain.new.machine in
     leaves_opened (lent c.args.setting) _ c.in-Ok.count m.layer after.layer m.tally after.tally c.in-Ok.ensures.leaves
+
+pub returns-in-Err-clause-kept : goal.returns-in-Err-clause-kept
+returns-in-Err-clause-kept g c = none_kept c.args.setting.program.now.kinds _ c.in-Err.ensures.taken
+
+pub returns-in-Err-clause-refused : goal.returns-in-Err-clause-refused
+returns-in-Err-clause-refused g c = leaf_refused _ _ _ c.in-Err.ensures.taken c.in-Err.ensures.refused

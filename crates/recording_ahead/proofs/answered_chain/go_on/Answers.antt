@@ -1,9 +1,10 @@
-use Rattle.std.proofs.Common.{◌-◌, ◌∷◌, [], Bool, subst, ap}
+use Rattle.std.proofs.Common.{◌-◌, ◌∷◌, [], Bool, Option, subst, sym, ap}
 use Rattle.meaning.specs.Elision.{depth_limit}
 use Rattle.rerun_records.specs.declared.batch.Batch.{Batch}
 use Rattle.rerun_records.specs.Sums.{IsBatchFor}
+use Rattle.positions.specs.Layers.{PlainLayer}
 use Rattle.positions.specs.Strands.{PlainStrand}
-use Rattle.recording_ahead.specs.AnsweredChains.{answered}
+use Rattle.recording_ahead.specs.AnsweredChains.{IsRefusedBy, answered}
 use Rattle.own_statements.specs.Leaves.{plain_leaf}
 use Rattle.recording_ahead.proofs.answered_chain.go_on.Goals as goal
 
@@ -18,10 +19,12 @@ take_on-requires-clause-batch g c κs within =
 pub returns-in-Ok-clause-passed : goal.returns-in-Ok-clause-passed
 returns-in-Ok-clause-passed g c = answered c.in-Ok.ensures.taken
 
-pub returns-in-Err-clause-turn : goal.returns-in-Err-clause-turn
-returns-in-Err-clause-turn g c = record {
-  lower = ap (λ (s : PlainStrand). s.lower) c.take_on.ensures.others;
-  kinds = c.take_on.ensures.kinds;
-  opened = c.take_on.ensures.opened;
-  phase = ap (λ (s : PlainStrand). s.phase) c.take_on.ensures.others;
-}
+pub returns-in-Err-clause-refused : goal.returns-in-Err-clause-refused
+returns-in-Err-clause-refused g c =
+    subst (λ (o : Option PlainLayer). IsRefusedBy o c.args.machine.now c.take_on.new.machine) (sym c.requires.blank)
+    (record {
+      lower = ap (λ (s : PlainStrand). s.lower) c.take_on.ensures.others;
+      kinds = c.take_on.ensures.kinds;
+      opened = c.take_on.ensures.opened;
+      phase = ap (λ (s : PlainStrand). s.phase) c.take_on.ensures.others;
+    })

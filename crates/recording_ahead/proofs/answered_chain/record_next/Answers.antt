@@ -6,6 +6,7 @@ use Rattle.positions.specs.Strands.{PlainStrand}
 use Rattle.activations.specs.Given.{lent}
 use Rattle.own_statements.specs.Leaves.{plain_leaf}
 use Rattle.recording_ahead.proofs.AnsweredChains.{leaves_passed}
+use Rattle.recording_ahead.proofs.Own.{none_kept, leaf_refused}
 use Rattle.recording_ahead.proofs.answered_chain.record_next.Goals as goal
 
 pub record_chain-requires-clause-unknown : goal.record_chain-requires-clause-unknown
@@ -25,3 +26,9 @@ returns-in-Ok-clause-few g c =
     let one : c.in-Ok.count ≤ 1 = c.in-Ok.ensures.some in
     let more : 0 < c.args.ahead.most = c.requires.some in
     omega (arith, one, more)
+
+pub returns-in-Err-clause-kept : goal.returns-in-Err-clause-kept
+returns-in-Err-clause-kept g c = none_kept c.args.setting.program.now.kinds _ c.in-Err.ensures.taken
+
+pub returns-in-Err-clause-refused : goal.returns-in-Err-clause-refused
+returns-in-Err-clause-refused g c = leaf_refused _ _ _ c.in-Err.ensures.taken c.in-Err.ensures.refused

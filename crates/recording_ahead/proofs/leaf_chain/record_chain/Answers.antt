@@ -14,21 +14,21 @@ returns-then-is_err-clause-leaves g c =
 
 pub returns-in-Ok-clause-values : goal.returns-in-Ok-clause-values
 returns-in-Ok-clause-values g c h =
-    c.record_each-recorded.ensures.values (subst (λ (s : PlainStrand). HaveValues c.args.setting.program.now.kinds s.tally.made) (sym c.machine.view_is) h)
+    c.record_own-recorded.ensures.values (subst (λ (s : PlainStrand). HaveValues c.args.setting.program.now.kinds s.tally.made) (sym c.machine.view_is) h)
 
 pub returns-in-Err-clause-values : goal.returns-in-Err-clause-values
 returns-in-Err-clause-values g c h =
-    c.record_each-recorded.ensures.values (subst (λ (s : PlainStrand). HaveValues c.args.setting.program.now.kinds s.tally.made) (sym c.machine.view_is) h)
+    c.record_own-recorded.ensures.values (subst (λ (s : PlainStrand). HaveValues c.args.setting.program.now.kinds s.tally.made) (sym c.machine.view_is) h)
 
 pub returns-in-Err-clause-refused : goal.returns-in-Err-clause-refused
 returns-in-Err-clause-refused g c =
-    let r : PlainLayer = c.replace.result in
+    let r : PlainLayer = c.record_own-recorded.new.layer in
     record {
       below = r;
-      lower = ap (λ (ls : List PlainLayer). reverse ls) (c.push_reserved.ensures.items ∙ ap (λ (ls : List PlainLayer). ls ++ r ∷ []) c.reserve.ensures.items)
+      lower = ap (λ (ls : List PlainLayer). reverse ls) (c.put_above.ensures.put ∙ ap (λ (ls : List PlainLayer). ls ++ r ∷ []) c.reserve.ensures.items)
           ∙ reverse-append c.machine.inside.lower.items (r ∷ []) ∙ ap (λ (s : PlainStrand). r ∷ s.lower) c.machine.view_is;
-      below_kinds = ap (λ (l : PlainLayer). l.kinds) c.replace.ensures.value ∙ c.record_each-recorded.ensures.kinds ∙ ap (λ (s : PlainStrand). s.layer.kinds) c.machine.view_is;
-      kinds = ap (λ (l : PlainLayer). l.kinds) c.replace.ensures.after ∙ c.record_each-recorded.ensures.own_kinds ∙ sym c.requires.kinds;
+      below_kinds = c.record_own-recorded.ensures.kinds ∙ ap (λ (s : PlainStrand). s.layer.kinds) c.machine.view_is;
+      kinds = c.put_above.ensures.kinds ∙ c.record_own-recorded.ensures.kinds ∙ ap (λ (s : PlainStrand). s.layer.kinds) c.machine.view_is;
       opened = c.in-Err.ensures.left_open ∙ ap (λ (s : PlainStrand). suc (length s.tally.opened)) c.machine.view_is;
       phase = ap (λ (s : PlainStrand). s.phase) c.machine.view_is;
     }
