@@ -15,9 +15,18 @@ use std::sync::ledger::{Book as Count, Ledger, Share};
 use stealing_deques::{Deques, OwnerEnd, Spot, ThiefEnd};
 use view_pool::View;
 
-/// How many continuations a deque holds at most. The oldest are the largest pieces of a worker's work: as long as nobody takes one of
-/// these, nobody needs more of them, and a call costs less than a push and a pop. Where thieves take some, more are pushed.
-const MOST: usize = 4;
+/// How many continuations a deque holds at most, where there are so many workers. The oldest are the largest pieces of a worker's work: as long as
+/// nobody takes one of these, nobody needs more of them, and a call costs less than a push and a pop. Where thieves take some, more are pushed,
+/// which are smaller: so there are as many as few workers need at once, and more for many.
+fn most_by(workers: usize) -> usize {
+    if workers <= 4 {
+        3
+    } else if workers <= 8 {
+        4
+    } else {
+        5
+    }
+}
 
 /// What contracts see of a seat: how often its worker has left, and the spot that its deque is bound to, if it is bound to one.
 pub struct PlainSeat {
@@ -26,11 +35,13 @@ pub struct PlainSeat {
 }
 
 /// What a worker has to itself: its end of its deque, its part of the count of those that have left, and lists to work with. Whether its deque
-/// may be bound to a spot stands beside it, so that nobody has to ask under the lock where it isn't.
+/// may be bound to a spot stands beside it, so that nobody has to ask under the lock where it isn't, and how many continuations the deque holds
+/// at most.
 #[derive(Drop)]
 pub struct Seat<J: Run + Ledger + Send, D: Deques> {
     owner: OwnerEnd<Waiting<J>, D>,
     share: Share<J>,
+    limit: usize,
     may_be_bound: bool,
     // What the first strand of a run works with while its worker is alone, and whether it is.
     lists: WorkLists,
@@ -49,8 +60,13 @@ impl<J: Run + Ledger + Send, D: Deques> Model for Seat<J, D> {
 }
 
 impl<J: Run + Ledger + Send, D: Deques> Seat<J, D> {
-    /// A seat with that end of a deque and that part of the count.
-    fn new(alloc: Global, owner: OwnerEnd<Waiting<J>, D>, share: Share<J>) -> Seat<J, D>
+    /// A seat with that end of a deque and that part of the count. The deque holds so many continuations at most.
+    fn new(
+        alloc: Global,
+        owner: OwnerEnd<Waiting<J>, D>,
+        share: Share<J>,
+        limit: usize,
+    ) -> Seat<J, D>
         requires one { share.parts ≡ 1 }
         requires none { share.amount ≡ 0 }
         ensures none { result.left ≡ 0 }
@@ -58,6 +74,7 @@ impl<J: Run + Ledger + Send, D: Deques> Seat<J, D> {
         Seat {
             owner,
             share,
+            limit,
             may_be_bound: true,
             lists: WorkLists::new(alloc),
             serves: false,
@@ -137,7 +154,7 @@ impl<J: Run + Ledger + Send, D: Deques> Seat<J, D> {
     pub fn holds_enough(&mut self) -> bool
         ensures same { self.new ≡ self.old }
     {
-        self.owner.held_count() >= MOST
+        self.owner.held_count() >= self.limit
     }
 
     /// Unbinds the seat from where its worker has come to, where all that was pushed was taken, as the thieves' end of the deque counts:
@@ -181,11 +198,12 @@ pub fn seats_of<J: Run + Ledger + Send, D: Deques>(
     ensures count { IfOk result (λ seats. length seats.items ≡ length owners.items) }
     ensures none_left { IfOk result (λ seats. All (λ seat. seat.left ≡ 0) seats.items) }
 {
+    let limit = most_by(owners.len());
     let mut owners = owners;
     let mut share = share;
     let mut seats = Vec::new(alloc);
     while let Some(owner) = owners.pop() {
-        seats.push(Seat::new(alloc, owner, share.split_off(1, 0)))?;
+        seats.push(Seat::new(alloc, owner, share.split_off(1, 0), limit))?;
     }
     Ok(seats)
 }
