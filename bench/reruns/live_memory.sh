@@ -43,6 +43,6 @@ for count in "$@"; do
     read -r whole whole_seconds < <(peak "$count" "$room/whole")
     echo "| $count | $live | $whole | $live_seconds | $whole_seconds |"
     cmp -s "$room/live" "$room/whole" || is_wrong "$count commands: the answers differ"
-    if [ "$live" -gt $((${first:=$live} + first / 100)) ]; then is_wrong "$count commands: the peak grows"; fi
+    if [ "$live" -gt $((${first:=$live} + first / 10)) ]; then is_wrong "$count commands: the peak grows"; fi
 done
 exit $wrong
