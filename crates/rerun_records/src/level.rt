@@ -207,8 +207,43 @@ fn are_home(homes: &[u32], places: &[u32], number: u32) -> bool
     true
 }
 
-// Has the record at that place be at home at that number, and drops the block that it was part of.
+// Has the record at that place be at home at that number, and drops the block that it was part of. In a first run it lies behind all that
+// have a home.
+#[inline(always)]
 fn move_in(
+    blocks: &mut Vec<Slot>,
+    homes: &mut Vec<u32>,
+    place: u32,
+    number: u32,
+    due: &mut Due,
+) -> Result<(), AllocError>
+    requires housed { AreHoused homes.old.items blocks.old.items }
+    ensures housed { AreHoused homes.new.items blocks.new.items }
+    ensures remain { Remain blocks.new.items blocks.old.items }
+    ensures count { length blocks.new.items ≡ length blocks.old.items }
+    ensures kept { (p : ℕ) → is_home homes.old.items number p ≡ true
+        → is_home homes.new.items number p ≡ true }
+    ensures there { OnOk result (is_home homes.new.items number place ≡ true) }
+{
+    if place as usize == homes.len() {
+        return add_behind(homes, number);
+    }
+    move_home(blocks, homes, place, number, due)
+}
+
+// Makes the homes longer by that number.
+#[inline(always)]
+fn add_behind(homes: &mut Vec<u32>, number: u32) -> Result<(), AllocError>
+    ensures kept { (n p : ℕ) → is_home homes.old.items n p ≡ true
+        → is_home homes.new.items n p ≡ true }
+    ensures there { OnOk result (is_home homes.new.items number (length homes.old.items) ≡ true) }
+{
+    homes.push(number)?;
+    Ok(())
+}
+
+// The same, wherever it lies.
+fn move_home(
     blocks: &mut Vec<Slot>,
     homes: &mut Vec<u32>,
     place: u32,
