@@ -120,6 +120,7 @@ impl Tally {
 
     /// A record answers an instance at that depth: what the record has goes behind the layer. Where memory is refused, or the
     /// count is at its limit, nothing has changed but the layer's values.
+    #[inline(always)]
     pub fn reuse<V: View>(
         &mut self,
         alloc: Global,
