@@ -1,4 +1,4 @@
-use Rattle.std.proofs.Common.{rules, ◌≡◌, ◌+◌, ◌-◌, ◌≤◌, ◌+ℤ◌, ℤ, pos, refl, ap, ◌∙◌, arith, to_z, of_z, w64}
+use Rattle.std.proofs.Common.{rules, length, ◌≡◌, ◌+◌, ◌-◌, ◌≤◌, ◌+ℤ◌, ℤ, pos, refl, ap, ◌∙◌, arith, to_z, of_z, w64}
 use Rattle.positions.specs.Code.{PlainLoop}
 use Rattle.positions.specs.Strands.{PlainStrand}
 use Rattle.activations.specs.Given.{lent, loop_of}
@@ -7,6 +7,8 @@ use Rattle.recording_ahead.specs.AnsweredChains.{ArePassed}
 use Rattle.running_ahead.specs.Leaves.{none, gathered_of}
 use Rattle.recording_ahead.proofs.AnsweredChains.{passed_at, passed_on, passed_opened}
 use Rattle.recording_ahead.proofs.LeafChains.{leaf_of}
+use Rattle.recording_ahead.proofs.Outcomes.{refused_before}
+use Rattle.recording_ahead.proofs.Own.{own_there}
 use Rattle.recording_ahead.proofs.answered_chain.answered_chain.Goals as goal
 
 pub loop-init : goal.loop-init
@@ -94,3 +96,20 @@ returns-then-stops-clause-some g c =
 
 pub returns-then-stops-clause-values : goal.returns-then-stops-clause-values
 returns-then-stops-clause-values g c = λ h. c.go_on.ensures.values (c.loop.invariant.values h)
+
+pub returns-in-Err-clause-refused : goal.returns-in-Err-clause-refused
+returns-in-Err-clause-refused g c =
+    refused_before c.args.machine.now c.loop.machine c.go_on.new.machine c.loop.invariant.others c.loop.invariant.kinds c.loop.invariant.opened c.go_on.new.own c.in-Err.ensures.refused
+
+pub returns-in-Err-clause-kept : goal.returns-in-Err-clause-kept
+returns-in-Err-clause-kept g c = c.in-Err.ensures.kept
+
+pub returns-then-stops-clause-own : goal.returns-then-stops-clause-own
+returns-then-stops-clause-own g c = c.in-Ok.ensures.own
+
+pub returns-then-done-stretch-clause-own : goal.returns-then-done-stretch-clause-own
+returns-then-done-stretch-clause-own g c =
+    own_there c.args.setting.program.now.kinds (length c.args.setting.program.now.codes) c.loop.own c.loop.invariant.blank
+
+pub returns-clause-own : goal.returns-clause-own
+returns-clause-own g c = own_there c.args.setting.program.now.kinds (length c.args.setting.program.now.codes) c.loop.own c.loop.invariant.blank

@@ -1,5 +1,7 @@
-use Rattle.std.proofs.Common.{◌-◌, ◌∷◌, [], Bool, Option, subst, sym, ap}
+use Rattle.std.proofs.Common.{◌-◌, ◌∷◌, [], List, Bool, Option, subst, sym, ap}
 use Rattle.meaning.specs.Elision.{depth_limit}
+use Rattle.record_theory.specs.Record.{PlainRecord}
+use Rattle.record_theory.specs.Named.{HaveValues}
 use Rattle.rerun_records.specs.declared.batch.Batch.{Batch}
 use Rattle.rerun_records.specs.Sums.{IsBatchFor}
 use Rattle.positions.specs.Layers.{PlainLayer}
@@ -28,3 +30,9 @@ returns-in-Err-clause-refused g c =
       opened = c.take_on.ensures.opened;
       phase = ap (λ (s : PlainStrand). s.phase) c.take_on.ensures.others;
     })
+
+pub returns-in-Ok-clause-values : goal.returns-in-Ok-clause-values
+returns-in-Ok-clause-values g c h = subst (λ (rs : List PlainRecord). HaveValues c.args.setting.program.now.kinds rs) (sym c.take_on.ensures.made) h
+
+pub returns-in-Err-clause-values : goal.returns-in-Err-clause-values
+returns-in-Err-clause-values g c h = subst (λ (rs : List PlainRecord). HaveValues c.args.setting.program.now.kinds rs) (sym c.take_on.ensures.made) h
