@@ -154,20 +154,22 @@ fn readings_past_their_bytes_are_refused(rt: HostRuntime) {
     assert!(&rt; are_kept(rt.alloc(), &cells));
 }
 
+/// Whether what the reducer of that number was given is kept without memory of its own.
+fn is_short(reducer: usize, value: Val) -> bool {
+    Gift::short(reducer, &value).is_some()
+}
+
 /// What reducers were given that takes memory of its own, and what doesn't: a number, and a best pair whose second number takes four
 /// bytes.
 #[test]
 fn what_is_given_is_short(rt: HostRuntime) {
     let pairs = [(7, 0), (7, 4_294_967_295), (7, 4_294_967_296), (7, -1)];
     let short = [true, true, false, false];
-    assert!(&rt; Gift::short(65535, &Val::Int(-1)).is_some());
-    assert!(&rt; Gift::short(65536, &Val::Int(-1)).is_none());
+    assert!(&rt; is_short(65535, Val::Int(-1)) && !is_short(65536, Val::Int(-1)));
     for place in 0..4 {
-        assert!(&rt; Gift::short(1, &Val::Arg(Some(pairs[place]))).is_some() == short[place]);
+        assert!(&rt; is_short(1, Val::Arg(Some(pairs[place]))) == short[place]);
     }
-    assert!(&rt;
-        Gift::short(1, &Val::Arg(None)).is_none() && Gift::short(1, &Val::Pair(1, 2)).is_none()
-    );
+    assert!(&rt; !is_short(1, Val::Arg(None)) && !is_short(1, Val::Pair(1, 2)));
     assert!(&rt; size_of::<Gift>() == 16);
 }
 
