@@ -124,8 +124,20 @@ pub fn played<V: View>(
 ) -> Result<Answers, AllocError> {
     let asked = session_commands(alloc, script)?;
     let given = play_session(alloc, session, &asked)?;
-    let mut answers = Answers::none(alloc);
+    answers_to(alloc, session.checked(), script, &given)
+}
+
+/// What the commands of a script were answered, and where a line of it is none.
+fn answers_to(
+    alloc: Global,
+    program: &Checked,
+    script: &[u8],
+    given: &[Answer],
+) -> Result<Answers, AllocError> {
     let lines = commands(alloc, script)?;
-    answers.note_all(alloc, session.checked(), &lines, &given)?;
-    Ok(answers)
+    let mut answers = Answers::none(alloc);
+    match answers.note_all(alloc, program, &lines, given) {
+        Ok(()) => Ok(answers),
+        Err(error) => Err(error),
+    }
 }
