@@ -1,5 +1,5 @@
 -- Iterations of a loop that batches of records answer: what is found, and the way from a strand to the one that it leaves.
-use Rattle.std.proofs.Common.{◌≡◌, ℕ, zero, suc, ◌+◌, ◌-◌, ◌/◌, ◌<◌, ◌≤◌, ℤ, pos, ◌+ℤ◌, Bool, true, false, List, [], ◌∷◌, map, length, Option, Some, None, IfSome, Result, Ok, Err, IfOk, OnOk, slice_get, slice_set, refl, sym, ap, ◌∙◌, subst, arith}
+use Rattle.std.proofs.Common.{◌≡◌, ℕ, zero, suc, ◌+◌, ◌-◌, ◌/◌, ◌<◌, ◌≤◌, ℤ, pos, ◌+ℤ◌, Bool, true, false, List, [], ◌∷◌, map, length, Option, Some, None, IfSome, Result, Ok, Err, IfOk, OnOk, OnErr, slice_get, slice_set, refl, sym, ap, ◌∙◌, subst, arith}
 use Rattle.std.proofs.Math.IntN.{+ℤ_assoc}
 use Rattle.monoid_laws.specs.declared.Kind.{Kind}
 use Rattle.monoid_laws.specs.Kinds.{AreWorths}
@@ -34,7 +34,7 @@ use Rattle.answered_loops.specs.Answered.{IsAnswer, AreAnswers, HasAnswers, IsIn
 use Rattle.answered_loops.proofs.Arguments.{counted_is, other_values}
 use Rattle.answered_loops.proofs.Found.{found_arguments}
 use Rattle.answered_loops.proofs.Halves.{half_answers, first_answers, begun_answers, turns_answer}
-use Rattle.loop_answers.specs.Ahead.{IsAnsweredAhead, DoneBy}
+use Rattle.loop_answers.specs.Ahead.{IsAnsweredAhead, IsSameButAnswers, IsRefusedAhead, DoneBy}
 use Rattle.loop_answers.specs.Batches.{SumsHaveValues, instances_in, AreSums, all_in, HasBatches, IsBatchFrom, CountsAt, with_batches, halves_left, first_left, last_left, turns_left}
 use Rattle.loop_answers.proofs.Batches.{as_many, sums_values, batches_leave}
 
@@ -125,6 +125,11 @@ module _ (setting : Setting) where
     kinds = ap (λ (u : PlainStrand). u.layer.kinds) e;
     made = ap (λ (u : PlainStrand). u.tally.made) e;
   }
+
+  -- memory is refused where the strand is as it was but for the answers
+  pub refused_same : {A E : Type 0} (r : Result A E) (s m t : PlainStrand) → m ≡ s → IsSameButAnswers m t → OnErr r (IsRefusedAhead setting s t)
+  refused_same (Ok a) s m t e h = tt
+  refused_same (Err x) s m t e h = record { between = m; ahead = answered_same s m e; same = h }
 
   absorbed_kinds : (d : ℕ) (rs : List PlainRecord) (l : PlainLayer) → (absorbed d rs l).kinds ≡ l.kinds
   absorbed_kinds d [] l = refl
