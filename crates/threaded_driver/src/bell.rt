@@ -11,6 +11,10 @@ const LISTENS: u32 = 64;
 /// After how many looks in vain a worker naps between them. Before that a nap could take longer than the run.
 const PATIENCE: u64 = 32;
 
+/// How often the first worker looks whether the others have left, before it sleeps until they have: in all about as long as it would be woken
+/// late.
+const PARTINGS: u32 = 128;
+
 /// How many microseconds its first nap takes, and by how many each further one is longer.
 const NAP: u64 = 100;
 
@@ -104,7 +108,7 @@ impl Bell {
     /// Waits until so many threads have nothing more to do with the run, for a short while: who sleeps until the last one has is woken late.
     /// At the end it lets them go their last steps.
     pub(crate) fn await_parted(&self, threads: u64) {
-        for _ in 0..LISTENS {
+        for _ in 0..PARTINGS {
             let have_parted = self.parted.load(Ordering::SeqCst) >= threads;
             thread::yield_now();
             if have_parted {

@@ -383,8 +383,12 @@ where
     match found {
         Found::Left => seat,
         found => {
-            seat.keep_lists();
-            live_beside(rt, floor, number, seat, found, others, gate)
+            // Strands that others have begun leave lists too: those that stay for the next run stay as they are.
+            let mut kept = WorkLists::new(floor.alloc);
+            seat.exchange_lists(&mut kept);
+            let mut seat = live_beside(rt, floor, number, seat, found, others, gate);
+            seat.exchange_lists(&mut kept);
+            seat
         }
     }
 }

@@ -43,7 +43,7 @@ pub struct Seat<J: Run + Ledger + Send, D: Deques> {
     share: Share<J>,
     limit: usize,
     may_be_bound: bool,
-    // What the first strand of a run works with while its worker is alone, and whether it is.
+    // What the strands work with that its worker goes on with, and whether they do.
     lists: WorkLists,
     serves: bool,
 }
@@ -81,19 +81,12 @@ impl<J: Run + Ledger + Send, D: Deques> Seat<J, D> {
         }
     }
 
-    /// Works with these lists from then on, while it is alone, and leaves there those that it had.
+    /// Works with these lists from then on, and leaves there those that it had.
     pub fn exchange_lists(&mut self, lists: &mut WorkLists)
         ensures same { self.new ≡ self.old }
     {
         mem::swap(&mut self.lists, lists);
         self.serves = true;
-    }
-
-    /// Its lists serve no strand any more: strands that are folded into another bring lists along, so these would grow from run to run.
-    pub fn keep_lists(&mut self)
-        ensures same { self.new ≡ self.old }
-    {
-        self.serves = false;
     }
 
     /// The strand goes on with its lists, where they serve it, and leaves its own here. It takes no memory.
