@@ -14,3 +14,4 @@ mod spare;
 pub mod supply;
 pub mod table;
 pub mod waiting;
+mod wanted;

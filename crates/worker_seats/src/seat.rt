@@ -4,6 +4,7 @@ ghost use Rattle.stealing_deques.specs.Order.{GoesOn, IsBoundTo};
 ghost use Rattle.worker_seats.specs.Spots.{bottom_of, own_spot, child_spot};
 
 use crate::waiting::Waiting;
+use crate::wanted::Wanted;
 use right_strands::run::Run;
 use right_strands::strand::RightStrand;
 use right_strands::task::RightTask;
@@ -15,19 +16,6 @@ use std::sync::ledger::{Book as Count, Ledger, Share};
 use stealing_deques::{Deques, OwnerEnd, Spot, ThiefEnd};
 use view_pool::View;
 
-/// How many continuations a deque holds at most, where there are so many workers. The oldest are the largest pieces of a worker's work: as long as
-/// nobody takes one of these, nobody needs more of them, and a call costs less than a push and a pop. Where thieves take some, more are pushed,
-/// which are smaller: so there are as many as few workers need at once, and more for many.
-fn most_by(workers: usize) -> usize {
-    if workers <= 4 {
-        3
-    } else if workers <= 8 {
-        4
-    } else {
-        5
-    }
-}
-
 /// What contracts see of a seat: how often its worker has left, and the spot that its deque is bound to, if it is bound to one.
 pub struct PlainSeat {
     pub left: u64,
@@ -35,13 +23,13 @@ pub struct PlainSeat {
 }
 
 /// What a worker has to itself: its end of its deque, its part of the count of those that have left, and lists to work with. Whether its deque
-/// may be bound to a spot stands beside it, so that nobody has to ask under the lock where it isn't, and how many continuations the deque holds
-/// at most.
+/// may be bound to a spot stands beside it, so that nobody has to ask under the lock where it isn't, and how many continuations the deque should
+/// hold.
 #[derive(Drop)]
 pub struct Seat<J: Run + Ledger + Send, D: Deques> {
     owner: OwnerEnd<Waiting<J>, D>,
     share: Share<J>,
-    limit: usize,
+    wanted: Wanted,
     may_be_bound: bool,
     // What the strands work with that its worker goes on with, and whether they do.
     lists: WorkLists,
@@ -60,13 +48,8 @@ impl<J: Run + Ledger + Send, D: Deques> Model for Seat<J, D> {
 }
 
 impl<J: Run + Ledger + Send, D: Deques> Seat<J, D> {
-    /// A seat with that end of a deque and that part of the count. The deque holds so many continuations at most.
-    fn new(
-        alloc: Global,
-        owner: OwnerEnd<Waiting<J>, D>,
-        share: Share<J>,
-        limit: usize,
-    ) -> Seat<J, D>
+    /// A seat with that end of a deque and that part of the count.
+    fn new(alloc: Global, owner: OwnerEnd<Waiting<J>, D>, share: Share<J>) -> Seat<J, D>
         requires one { share.parts ≡ 1 }
         requires none { share.amount ≡ 0 }
         ensures none { result.left ≡ 0 }
@@ -74,7 +57,7 @@ impl<J: Run + Ledger + Send, D: Deques> Seat<J, D> {
         Seat {
             owner,
             share,
-            limit,
+            wanted: Wanted::new(),
             may_be_bound: true,
             lists: WorkLists::new(alloc),
             serves: false,
@@ -125,7 +108,10 @@ impl<J: Run + Ledger + Send, D: Deques> Seat<J, D> {
         };
         self.may_be_bound = true;
         match self.owner.push(Waiting { task }) {
-            Ok(()) => Ok(()),
+            Ok(()) => {
+                self.wanted.note_push();
+                Ok(())
+            }
             Err(waiting) => Err(Box::into_inner(waiting.task)),
         }
     }
@@ -138,7 +124,10 @@ impl<J: Run + Ledger + Send, D: Deques> Seat<J, D> {
     {
         self.may_be_bound = true;
         match self.owner.pop() {
-            Some(waiting) => Some(waiting.task),
+            Some(waiting) => {
+                self.wanted.note_pop();
+                Some(waiting.task)
+            }
             None => None,
         }
     }
@@ -147,7 +136,8 @@ impl<J: Run + Ledger + Send, D: Deques> Seat<J, D> {
     pub fn holds_enough(&mut self) -> bool
         ensures same { self.new ≡ self.old }
     {
-        self.owner.held_count() >= self.limit
+        let held = self.owner.held_count();
+        self.wanted.is_met(held)
     }
 
     /// Unbinds the seat from where its worker has come to, where all that was pushed was taken, as the thieves' end of the deque counts:
@@ -191,12 +181,11 @@ pub fn seats_of<J: Run + Ledger + Send, D: Deques>(
     ensures count { IfOk result (λ seats. length seats.items ≡ length owners.items) }
     ensures none_left { IfOk result (λ seats. All (λ seat. seat.left ≡ 0) seats.items) }
 {
-    let limit = most_by(owners.len());
     let mut owners = owners;
     let mut share = share;
     let mut seats = Vec::new(alloc);
     while let Some(owner) = owners.pop() {
-        seats.push(Seat::new(alloc, owner, share.split_off(1, 0), limit))?;
+        seats.push(Seat::new(alloc, owner, share.split_off(1, 0)))?;
     }
     Ok(seats)
 }

@@ -4,8 +4,8 @@ use super::beginning::is_answered;
 use super::counting::{Held, PushBesideSteal};
 use super::programs::{LEVELS, LEVELS_TO_A_FAULT, NESTED};
 
-/// How many continuations the deque of one worker holds at most.
-const MOST: i64 = 3;
+/// How many continuations a deque holds at most.
+const MOST: i64 = 6;
 
 /// Programs of 255 loops, whose halves leave eight and sixteen continuations each, and their answers.
 const ROWS: [(&str, &str); 2] = [
