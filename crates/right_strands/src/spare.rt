@@ -47,6 +47,11 @@ impl<V: View> Spares<V> {
         }
     }
 
+    /// One that was kept, if there is one.
+    pub fn pop(&mut self) -> Option<Spare<V>> {
+        self.spares.pop()
+    }
+
     /// Keeps one. Where memory is refused for that it is let go.
     pub(crate) fn keep(&mut self, spare: Spare<V>) {
         let _ = self.spares.push(spare);

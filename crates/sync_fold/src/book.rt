@@ -8,7 +8,7 @@ use positions::answer::RunAnswer;
 use right_strands::laid::{Piece, Tally};
 use right_strands::pair::Pair;
 use right_strands::run::{Run, Scene};
-use right_strands::spare::Spares;
+use right_strands::spare::{Spare, Spares};
 use right_strands::strand::RightStrand;
 use right_strands::task::RightTask;
 use std::alloc::{AllocError, Global};
@@ -245,6 +245,14 @@ impl<J: Run, V: View> Book<J, V> {
             Ok(spare) => RightStrand::stolen(scene, task, kit, spare),
             Err(error) => Err((error, task, kit)),
         }
+    }
+
+    /// Two boxes of folded strands, as far as there are any, for who lets them go.
+    pub fn take_spares(&mut self) -> (Option<Spare<V>>, Option<Spare<V>>)
+        ensures same { self.new ≡ self.old }
+    {
+        let first = self.spares.pop();
+        (first, self.spares.pop())
     }
 
     /// The strand that a worker holds is laid down; it is handed back with a refusal.

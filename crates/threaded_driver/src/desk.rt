@@ -16,6 +16,7 @@ use crate::found::Found;
 use numbered_runs::step::StrandLine;
 use right_strands::laid::Piece;
 use right_strands::run::{Run, Scene};
+use right_strands::spare::Spare;
 use std::alloc::{AllocError, Global};
 use std::sync::ledger::{Blank, Book as Count, Ledger, Share};
 use stealing_deques::{Deques, ThiefEnd, all_ends};
@@ -228,6 +229,11 @@ impl<J: Run + Ledger + Stocked + Send, D: Deques, V: View> Desk<J, D, V> {
     /// Whether the run has given up.
     pub(crate) fn has_failed(&self) -> bool {
         self.failure.is_some()
+    }
+
+    /// Two boxes of folded strands, as far as there are any, for a worker that leaves and lets them go.
+    pub(crate) fn take_spares(&mut self) -> (Option<Spare<V>>, Option<Spare<V>>) {
+        self.table.book.take_spares()
     }
 
     /// Unbinds a worker's seat, where all that the worker has pushed was popped or stolen: whether it was.

@@ -128,7 +128,8 @@ impl<J: Run + Ledger + Stocked + Send, D: Deques, V: View> Floor<'_, J, D, V> {
         self.look(self.at_desk(rt), number, seat, gate)
     }
 
-    /// What there is for a worker without a strand that has the lock, and gives it up. A thief comes to its point while it holds the lock.
+    /// What there is for a worker without a strand that has the lock, and gives it up. A thief comes to its point while it holds the lock. Who leaves
+    /// takes two boxes of folded strands along and lets them go without the lock: else the first worker would have all of them before the answer.
     fn look<G: Gate>(
         &self,
         desk: MutexGuard<'_, Desk<J, D, V>>,
@@ -142,11 +143,16 @@ impl<J: Run + Ledger + Stocked + Send, D: Deques, V: View> Floor<'_, J, D, V> {
         let mut desk = desk;
         let found = desk.find(self.alloc, &self.scene, number, seat);
         self.note(desk.has_failed());
-        match &found {
-            Found::Stolen(_) => gate.at(number, Point::Stole),
-            _ => {}
-        }
+        let spares = match &found {
+            Found::Stolen(_) => {
+                gate.at(number, Point::Stole);
+                None
+            }
+            Found::Left => Some(desk.take_spares()),
+            _ => None,
+        };
         drop(desk);
+        drop(spares);
         match &found {
             Found::Folded(_) => gate.at(number, Point::Folded),
             _ => {}

@@ -52,6 +52,7 @@ where
     let mut lists = WorkLists::new(floor.alloc);
     seat.exchange_lists(&mut lists);
     let _ = work(rt, floor, seat, gate);
+    drop(lists);
     floor.bell().part();
 }
 
