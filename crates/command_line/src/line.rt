@@ -1,7 +1,7 @@
 // The words of the program's line.
 ghost use Rattle.std.specs.Prelude.{◌≡◌, ◌≤◌, ℕ, List, IfOk, IfErr, IfSome, IfNone, OnOk, false, map, option_map};
-ghost use Rattle.clap.specs.Words.{app_of, found_of, first_value, kind_of, rule_of};
-ghost use Rattle.command_line.specs.Line.{line_form, values_form, print_form, value_given, is_set, flag_rule, option_rule, path_rule, HasForm};
+ghost use Rattle.clap.specs.Words.{App, Rule, app_of, found_of, first_value, kind_of, rule_of, with_rule};
+ghost use Rattle.command_line.specs.Line.{line_form, values_form, print_form, program_form, value_given, is_set, flag_rule, option_rule, path_rule, HasForm};
 ghost use Rattle.asked_counts.specs.Counts.{AsksFor};
 ghost use Rattle.command_line.specs.Line.{IsAsked, IsLineOf, IsNoLine, IsNothing, IsPrintLine, IsNoPrintLine, IsRefusedFor};
 ghost use Rattle.command_line.specs.Line.{IsRefusalOf, IsWithin, AsksForViews, views_named};
@@ -58,9 +58,7 @@ fn printed_path<'a>(alloc: Global, words: &'a [&'a str]) -> Result<Option<&'a st
 fn form_of_print<'a>(alloc: Global) -> Result<Command<'a>, AllocError>
     ensures { IfOk result (λ command. app_of command ≡ print_form) }
 {
-    Command::new(alloc, "cilkreport")
-        .version(VERSION)
-        .arg(option(alloc, "print"))
+    with(Ok(named(alloc)), option(alloc, "print"))
 }
 
 /// The options of a line, whose first word is the program's own name; refused for another form, a request for help or
@@ -73,6 +71,23 @@ pub fn options<'a>(alloc: Global, words: &'a [&'a str]) -> Result<Options<'a>, O
         (map (λ word. word.now) words.now)) }
 {
     let matches = matched(alloc, words)?;
+    options_given(words, &matches)
+}
+
+// The options that are given in words of the form, by what these give for each of its names.
+fn options_given<'a>(
+    _words: &'a [&'a str],
+    matches: &ArgMatches<'a>,
+) -> Result<Options<'a>, OptionsError>
+    requires form { HasForm (map (λ word. word.now) _words.now) }
+    requires given { (name : List ℕ)
+        → first_value (found_of matches.now) name ≡ value_given name (map (λ word. word.now) _words.now) }
+    ensures read { IfOk result (IsLineOf (map (λ word. word.now) _words.now)) }
+    ensures workers { IfOk result (λ o. (1 ≤ o.workers) × (o.workers ≤ 16)) }
+    ensures kits { IfOk result (λ o. (1 ≤ o.kits) × (o.kits ≤ 4096)) }
+    ensures refused { IfErr result (IsRefusedFor (IsNoLine (map (λ word. word.now) _words.now))
+        (map (λ word. word.now) _words.now)) }
+{
     let workers = asked(matches.get_str("workers"), 1, 16)?;
     let kits = asked(matches.get_str("kits"), 64, 4096)?;
     let views = asked_views(matches.get_str("views"))?;
@@ -126,26 +141,45 @@ fn refusal(error: Error) -> OptionsError
 fn form<'a>(alloc: Global) -> Result<Command<'a>, AllocError>
     ensures { IfOk result (λ command. app_of command ≡ line_form) }
 {
-    let command = form_of_values(alloc)?;
-    command
-        .arg(flag(alloc, "stats"))?
-        .arg(flag(alloc, "explain"))?
-        .arg(flag(alloc, "live"))?
-        .arg(flag(alloc, "why"))
+    let stats = with(form_of_values(alloc), flag(alloc, "stats"));
+    let explain = with(stats, flag(alloc, "explain"));
+    let live = with(explain, flag(alloc, "live"));
+    with(live, flag(alloc, "why"))
 }
 
 // The form of the line without its flags.
 fn form_of_values<'a>(alloc: Global) -> Result<Command<'a>, AllocError>
     ensures { IfOk result (λ command. app_of command ≡ values_form) }
 {
-    Command::new(alloc, "cilkreport")
-        .version(VERSION)
-        .arg(path(alloc, "program"))?
-        .arg(path(alloc, "tables"))?
-        .arg(option(alloc, "workers"))?
-        .arg(option(alloc, "kits"))?
-        .arg(option(alloc, "trace"))?
-        .arg(option(alloc, "views"))
+    let program = with(Ok(named(alloc)), path(alloc, "program"));
+    let tables = with(program, path(alloc, "tables"));
+    let workers = with(tables, option(alloc, "workers"));
+    let kits = with(workers, option(alloc, "kits"));
+    let trace = with(kits, option(alloc, "trace"));
+    with(trace, option(alloc, "views"))
+}
+
+// The program's name and its version, with no words of its own yet.
+fn named<'a>(alloc: Global) -> Command<'a>
+    ensures { app_of result ≡ program_form }
+{
+    Command::new(alloc, "cilkreport").version(VERSION)
+}
+
+// The form so far with one argument more, or the refusal that there is already.
+fn with<'a>(
+    so_far: Result<Command<'a>, AllocError>,
+    argument: Arg<'a>,
+) -> Result<Command<'a>, AllocError>
+    requires { argument.global ≡ false }
+    ensures { (form : App) (rule : Rule) → rule_of argument.entry ≡ rule
+        → IfOk so_far.entry (λ command. app_of command ≡ form)
+        → IfOk result (λ command. app_of command ≡ with_rule form rule) }
+{
+    match so_far {
+        Ok(command) => command.arg(argument),
+        Err(error) => Err(error),
+    }
 }
 
 // A path that each line has.

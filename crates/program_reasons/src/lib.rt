@@ -36,35 +36,63 @@ pub fn reasons_of(
     reported: &Result<(), ProgramError>,
 ) -> String {
     let found = match reported {
-        Err(ProgramError::Prepare(error)) => read_again(rt, alloc, error),
-        Err(ProgramError::File(path)) => failed_again(rt, alloc, path.as_str()),
-        Err(ProgramError::Line(OptionsError::Usage)) => mistaken(rt, alloc),
-        _ => None,
+        Ok(()) => None,
+        Err(error) => reasons_by_words(rt, alloc, error),
     };
     found.unwrap_or_else(|| String::new(alloc))
 }
 
-// Which word of the program's line is wrong.
-fn mistaken(rt: &(impl Runtime + AllocGlobal), alloc: Global) -> Option<String> {
+// The lines under an error, by the words of the program's line, which are read once more.
+fn reasons_by_words(
+    rt: &(impl Runtime + AllocGlobal),
+    alloc: Global,
+    error: &ProgramError,
+) -> Option<String> {
     let held = held_words(rt, alloc).ok()?;
     let words = as_strs(alloc, held.as_slice()).ok()?;
+    match error {
+        ProgramError::Prepare(error) => read_again(rt, alloc, error, words.as_slice()),
+        ProgramError::File(path) => failed_again(rt, alloc, path.as_str(), words.as_slice()),
+        ProgramError::Line(OptionsError::Usage) => mistaken(alloc, words.as_slice()),
+        _ => None,
+    }
+}
+
+// Which word of the program's line is wrong.
+fn mistaken(alloc: Global, words: &[&str]) -> Option<String> {
     let mut usage = String::new(alloc);
     write!(usage, "{}", OptionsError::Usage).ok()?;
     let mut page = Page::new(alloc);
-    push_mistake(&mut page, usage.as_str(), words.as_slice());
+    push_mistake(&mut page, usage.as_str(), words);
     page.whole().ok()
 }
 
 // Why a file of the program's line failed.
-fn failed_again(rt: &(impl Runtime + AllocGlobal), alloc: Global, path: &str) -> Option<String> {
-    let held = held_words(rt, alloc).ok()?;
-    let words = as_strs(alloc, held.as_slice()).ok()?;
+fn failed_again(
+    rt: &(impl Runtime + AllocGlobal),
+    alloc: Global,
+    path: &str,
+    words: &[&str],
+) -> Option<String> {
+    let asked = asked_by(alloc, words).ok()?;
     let mut text = String::new(alloc);
-    match asked_by(alloc, words.as_slice()).ok()? {
-        Asked::Session(options) => push_failed(&mut text, rt, path, options).ok()?,
-        Asked::Print(_) => push_failed_program(&mut text, rt, path).ok()?,
+    if push_failure(&mut text, rt, path, asked).is_err() {
+        return None;
     }
     Some(text)
+}
+
+// Puts why a file failed that a line which asks for this names.
+fn push_failure(
+    text: &mut String,
+    rt: &(impl Runtime + AllocGlobal),
+    path: &str,
+    asked: Asked<'_>,
+) -> Result<(), AllocError> {
+    match asked {
+        Asked::Session(options) => push_failed(text, rt, path, options),
+        Asked::Print(_) => push_failed_program(text, rt, path),
+    }
 }
 
 // The lines of a refusal, where the files of the program's line can be read.
@@ -72,10 +100,9 @@ fn read_again(
     rt: &(impl Runtime + AllocGlobal),
     alloc: Global,
     error: &PrepareError,
+    words: &[&str],
 ) -> Option<String> {
-    let held = held_words(rt, alloc).ok()?;
-    let words = as_strs(alloc, held.as_slice()).ok()?;
-    match asked_by(alloc, words.as_slice()).ok()? {
+    match asked_by(alloc, words).ok()? {
         Asked::Session(options) => {
             let tables = fs::read(rt, options.tables).ok()?;
             reasons_beside(rt, alloc, error, options.program, tables.as_slice())
