@@ -1,14 +1,15 @@
 """Keeps the modules that the proofs of some crates have checked, for the checks that their must-fail edits begin with.
 
 rattle saves the modules of a check in a folder of its own, which it drops at the check's end; until then each gets a second name here. A
-check that is given them loads those that are up to date in it, and checks the others itself.
+check that is given them loads those that are up to date in it, and checks the others itself. They stay until the run is over: one that is
+ended from outside, even while it tries edits, leaves them to the next one, which may take the crates' proofs as they are kept.
 """
 import contextlib
 import glob
-import hashlib
 import os
 import re
 import shutil
+import stat
 import tempfile
 import threading
 
@@ -26,12 +27,11 @@ def folder_of(kit):
 
 
 class ProvedModules:
-    """The modules that proofs below a folder's `crates/` have saved so far, of those crates. What a run left there that was ended from outside
-    serves the next one, which may take these proofs as they are kept."""
+    """The modules that proofs below a folder's `crates/` have saved so far, of those crates, and what runs in other folders have of these."""
 
     def __init__(self, top, kit, crates):
-        self.top, self.folder, self.crates, self.saved_by = top, folder_of(kit), frozenset(crates), {}
-        self.rooms = f"{tempfile.gettempdir()}/proved-modules-{hashlib.sha256(top.encode()).hexdigest()[:12]}"
+        self.top, self.folder, self.crates, self.saved_by, self.given = top, folder_of(kit), frozenset(crates), {}, set()
+        self.rooms = f"{tempfile.gettempdir()}/proved-modules"
         self.room, self.over = f"{self.rooms}-{os.getpid()}", threading.Event()
         self.looking = threading.Thread(target=self.stay, daemon=True)
 
@@ -48,15 +48,25 @@ class ProvedModules:
             shutil.rmtree(self.room, ignore_errors=True)
 
     def take_over(self):
-        """Makes the folder for the modules, with those that are left of runs of the same user that have ended."""
+        """Makes the folder for the modules, with those that are left of runs that have ended."""
         shutil.rmtree(self.room, ignore_errors=True)
         os.mkdir(self.room, 0o700)
-        for left in set(glob.glob(f"{self.rooms}-*")) - {self.room}:
+        for left in self.others():
             with contextlib.suppress(OSError):
-                if os.lstat(left).st_uid == os.getuid() and not os.path.exists(f"/proc/{left.rpartition('-')[2]}"):
+                if not os.path.exists(f"/proc/{left.rpartition('-')[2]}"):
                     for crate in self.crates.intersection(os.listdir(left)).difference(os.listdir(self.room)):
                         os.rename(f"{left}/{crate}", f"{self.room}/{crate}")
                     shutil.rmtree(left, ignore_errors=True)
+
+    def others(self):
+        """The folders of other runs of the same user, the newest first."""
+        found = []
+        for other in set(glob.glob(f"{self.rooms}-*")) - {self.room}:
+            with contextlib.suppress(OSError):
+                its = os.lstat(other)
+                if its.st_uid == os.getuid() and stat.S_ISDIR(its.st_mode):
+                    found.append((its.st_mtime, other))
+        return [other for _, other in sorted(found, reverse=True)]
 
     def stay(self):
         """Looks at the folders of checks until it is over."""
@@ -90,9 +100,13 @@ class ProvedModules:
                     os.link(f"{saved}/{name}", f"{to}/{name}")
 
     def give(self, crate, to):
-        """Puts the modules of a crate's proof where a check looks for them whose `--incremental` is that folder, and says whether there were
-        any; they are given once."""
-        if not self.folder or not os.path.isdir(f"{self.room}/{crate}"):
+        """Puts the modules of a crate's proof where a check looks for them whose `--incremental` is that folder, by a further name each, and says
+        whether there were any; they are given once."""
+        found = [f"{room}/{crate}" for room in (self.room, *self.others()) if os.path.isdir(f"{room}/{crate}")]
+        if not self.folder or not found or crate in self.given:
             return False
-        shutil.move(f"{self.room}/{crate}", f"{to}/{self.folder}")
+        os.mkdir(f"{to}/{self.folder}")
+        for name in os.listdir(found[0]):
+            os.link(f"{found[0]}/{name}", f"{to}/{self.folder}/{name}")
+        self.given.add(crate)
         return True

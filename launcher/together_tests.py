@@ -6,6 +6,7 @@ import sys
 import tempfile
 import time
 import unittest
+from unittest import mock
 
 sys.dont_write_bytecode = True
 sys.path.insert(0, os.path.dirname(os.path.realpath(__file__)))
@@ -225,6 +226,10 @@ class Proofs(unittest.TestCase):
         room = tempfile.TemporaryDirectory()
         self.addCleanup(room.cleanup)
         self.top = os.path.realpath(room.name)
+        os.mkdir(f"{self.top}/rooms")
+        elsewhere = mock.patch("tempfile.tempdir", f"{self.top}/rooms")
+        elsewhere.start()
+        self.addCleanup(elsewhere.stop)
         os.makedirs(f"{self.top}/kit/logic_built")
         with open(f"{self.top}/kit/logic_built/format", "w", encoding="utf-8") as file:
             file.write("logic 1\nkernel antt-checked-8/0/src\n")
@@ -243,43 +248,66 @@ class Proofs(unittest.TestCase):
             with open(f"{saved}/{name}", "w", encoding="utf-8") as file:
                 file.write(crate)
 
+    def stays(self, modules):
+        """Waits until those modules have what the proof of `toy` has saved, and has them look no further."""
+        end = time.time() + 20
+        while not os.path.exists(f"{modules.room}/toy/toy.oantt") and time.time() < end:
+            time.sleep(0.1)
+        modules.over.set()
+        modules.looking.join()
+
+    def left_by(self, process, *crates):
+        """The folder of a run of that number, with an old module of each of the crates."""
+        room = f"{ProvedModules(self.top, f'{self.top}/kit', []).rooms}-{process}"
+        for crate in crates:
+            os.makedirs(f"{room}/{crate}")
+            with open(f"{room}/{crate}/old.oantt", "w", encoding="utf-8") as file:
+                file.write("old")
+        return room
+
+    def given(self, modules, *crates):
+        """What is given of each of the crates, or none."""
+        found = []
+        for crate in crates:
+            to = tempfile.mkdtemp()
+            found.append(os.listdir(f"{to}/antt-checked-8_0_src") if modules.give(crate, to) else None)
+        return found
+
     def test_modules_of_proofs_are_given_to_one_check(self):
         self.proof("toy")
         self.proof("other")
         self.proof("tested", "--test")
         with ProvedModules(self.top, f"{self.top}/kit", ["toy", "tested"]) as modules:
-            end = time.time() + 20
-            while not os.path.exists(f"{modules.room}/toy/toy.oantt") and time.time() < end:
-                time.sleep(0.1)
-            modules.over.set()
-            modules.looking.join()
-            os.mkdir(f"{self.top}/seed")
-            self.assertEqual([modules.give(crate, f"{self.top}/seed") for crate in ("toy", "toy", "tested", "other")], [True, False, False, False])
-        self.assertEqual(os.listdir(f"{self.top}/seed/antt-checked-8_0_src"), ["toy.oantt"])
+            self.stays(modules)
+            self.assertEqual(self.given(modules, "toy", "toy", "tested", "other"), [["toy.oantt"], None, None, None])
         self.assertFalse(os.path.exists(modules.room))
 
     def test_modules_that_an_ended_run_has_left_are_given_until_the_crate_is_proved_anew(self):
         ended = subprocess.Popen([sys.executable, "-c", ""])
         ended.wait()
-        rooms = ProvedModules(self.top, f"{self.top}/kit", []).rooms
-        left = {f"{rooms}-{ended.pid}": ("toy", "more", "other"), f"{rooms}-{os.getppid()}": ("toy", "beside")}
-        for room, crates in left.items():
-            for crate in crates:
-                os.makedirs(f"{room}/{crate}")
-                with open(f"{room}/{crate}/old.oantt", "w", encoding="utf-8") as file:
-                    file.write("old")
-            self.addCleanup(shutil.rmtree, room, True)
+        left = self.left_by(ended.pid, "toy", "more", "other")
         self.proof("toy")
-        with ProvedModules(self.top, f"{self.top}/kit", ["toy", "more", "beside"]) as modules:
-            self.assertEqual(os.listdir(f"{modules.room}/more"), ["old.oantt"])
-            end = time.time() + 20
-            while not os.path.exists(f"{modules.room}/toy/toy.oantt") and time.time() < end:
-                time.sleep(0.1)
-            modules.over.set()
-            modules.looking.join()
-            self.assertEqual(os.listdir(f"{modules.room}/toy"), ["toy.oantt"])
+        with ProvedModules(self.top, f"{self.top}/kit", ["toy", "more"]) as modules:
+            self.stays(modules)
             self.assertEqual(sorted(os.listdir(modules.room)), ["more", "toy"])
-        self.assertEqual([os.path.exists(room) for room in left], [False, True])
+            self.assertEqual(self.given(modules, "toy", "more"), [["toy.oantt"], ["old.oantt"]])
+        self.assertFalse(os.path.exists(left))
+
+    def test_a_run_that_is_ended_while_it_tries_edits_leaves_their_modules_to_the_next(self):
+        self.proof("toy")
+        code = "import os, sys; from proved_modules import ProvedModules; m = ProvedModules(*sys.argv[1:3], ['toy']); m.__enter__(); to = sys.argv[3]\n"
+        code += "while not m.give('toy', to): pass\nos._exit(9)"
+        words = [sys.executable, "-c", code, self.top, f"{self.top}/kit", tempfile.mkdtemp()]
+        subprocess.run(words, cwd=os.path.dirname(os.path.realpath(__file__)), env={**os.environ, "TMPDIR": tempfile.gettempdir()}, check=False)
+        with ProvedModules(f"{self.top}/elsewhere", f"{self.top}/kit", ["toy"]) as modules:
+            self.assertEqual(self.given(modules, "toy"), [["toy.oantt"]])
+
+    def test_modules_of_a_run_at_work_elsewhere_are_given_and_stay_there(self):
+        other = self.left_by(os.getppid(), "toy", "other")
+        with ProvedModules(self.top, f"{self.top}/kit", ["toy"]) as modules:
+            self.assertEqual(os.listdir(modules.room), [])
+            self.assertEqual(self.given(modules, "toy", "toy"), [["old.oantt"], None])
+        self.assertEqual(os.listdir(f"{other}/toy"), ["old.oantt"])
 
     def test_none_are_kept_of_a_kit_that_does_not_say_where(self):
         with ProvedModules(self.top, f"{self.top}/other kit", ["toy"]) as modules:
