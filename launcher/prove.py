@@ -9,8 +9,8 @@ nearly as long, gets two where there are four processors and memory holds them: 
 up to four where no other task would wait for these: such a proof is at work alone for minutes, since all that is left waits for it,
 and four jobs take no more of the processors than two for the same work. A program comes before the tests that are ready by then,
 which would go first, being longer: its sessions and figures wait for it. Must-fail edits are tried together, over what the crate's
-proof has checked (launcher/together.py). And what is below a crate is found once, which rt finds anew at each look, a minute and a
-half in all before its first proof.
+proof has checked (launcher/together.py). What is below a crate is found once, which rt finds anew at each look, a minute and a half in
+all before its first proof. And by a signal it is asked to end once what is at work has ended, for a run in another folder (launcher/handover.py).
 Where rt's files are made otherwise than this knows of, this is `rt ci` and no more.
 """
 import importlib.machinery
@@ -21,7 +21,8 @@ import sys
 
 TOP = os.path.dirname(os.path.dirname(os.path.realpath(__file__)))
 sys.path.insert(0, f"{TOP}/launcher")
-import together  # noqa: E402  (found by the path above)
+import handover  # noqa: E402  (found by the path above)
+import together  # noqa: E402
 from proved_modules import ProvedModules  # noqa: E402
 
 # What the first job of a proof takes of memory at most, and what each further one takes beside it, in bytes.
@@ -145,6 +146,8 @@ def with_edits(top):
 def main():
     path, here = os.path.realpath(shutil.which("rt")), os.path.realpath(".")
     rt = loaded(path)
+    if all(hasattr(rt, name) for name in ("in_lanes", "ending")):
+        handover.begin(rt)
     if all(hasattr(rt, name) for name in ("in_lanes", "free", "processors")):
         rt.in_lanes = work_first(rt, rt.in_lanes)
     if hasattr(getattr(rt, "rtlib", None), "Crate"):
