@@ -35,10 +35,11 @@ pub(crate) struct Bell {
     parted: AtomicU64,
 }
 
-/// A worker that comes to the bell, and how many looks were in vain since it had a strand.
+/// A worker that comes to the bell, whether it listens, and how many looks were in vain since it had a strand.
 #[derive(Drop)]
 pub(crate) struct Listener<'a> {
     bell: &'a Bell,
+    listens: Cell<bool>,
     looks: Cell<u64>,
 }
 
@@ -59,6 +60,7 @@ impl Bell {
     pub(crate) fn listener(&self) -> Listener<'_> {
         Listener {
             bell: self,
+            listens: Cell::new(false),
             looks: Cell::new(0),
         }
     }
@@ -119,20 +121,37 @@ impl Bell {
 }
 
 impl Listener<'_> {
-    /// Listens from then on: before the first look, so that nothing that comes after it is missed. It has heard what rang before: that would
-    /// have it look twice.
+    /// Listens from then on, unless it does: before the first look, so that nothing that comes after it is missed. It has heard what rang
+    /// before: that would have it look twice.
     pub(crate) fn listen(&self) {
+        if self.listens.get() {
+            return;
+        }
+        self.listens.set(true);
         self.bell.listeners.fetch_add(1, Ordering::SeqCst);
         self.bell.has_rung.store(false, Ordering::SeqCst);
         self.bell.is_wanted.store(true, Ordering::SeqCst);
     }
 
-    /// Listens no longer, since it has found a strand. Where that was there may be more, so it rings for another one that listens.
-    pub(crate) fn leave(&self) {
+    /// Listens no longer, since it has found a strand. Where that was stolen there may be more, so it rings for another one that listens; where
+    /// it was folded there mostly aren't, and who looked would meet it under the lock again, where it lays the strand down soon.
+    pub(crate) fn leave(&self, is_stolen: bool) {
         self.looks.set(0);
-        if self.bell.listeners.fetch_sub(1, Ordering::SeqCst) > 1 {
+        if self.others_listening() > 0 && is_stolen {
             self.bell.sound();
         }
+    }
+
+    /// Listens no longer; how many others do.
+    fn others_listening(&self) -> u64 {
+        if !self.listens.get() {
+            return self.bell.listeners.load(Ordering::SeqCst);
+        }
+        self.listens.set(false);
+        self.bell
+            .listeners
+            .fetch_sub(1, Ordering::SeqCst)
+            .saturating_sub(1)
     }
 
     /// Waits for the next look after one that was in vain.
@@ -160,7 +179,7 @@ impl Listener<'_> {
     /// Sleeps after so many naps, unless the run is over, and doesn't listen meanwhile.
     fn nap<R: Wait>(&self, rt: &R, naps: u64) {
         let micros = NAP.saturating_mul(naps.saturating_add(1).min(LONGEST));
-        self.bell.listeners.fetch_sub(1, Ordering::SeqCst);
+        let _ = self.others_listening();
         self.bell.nappers.fetch_add(1, Ordering::SeqCst);
         self.bell
             .is_over

@@ -128,6 +128,22 @@ impl<J: Run + Ledger + Stocked + Send, D: Deques, V: View> Floor<'_, J, D, V> {
         self.look(self.at_desk(rt), number, seat, gate)
     }
 
+    /// The same, where nobody has the lock: who waited for it would hold those up that have a strand to lay down.
+    pub(crate) fn find_if_free<G: Gate>(
+        &self,
+        number: usize,
+        seat: &mut Seat<J, D>,
+        gate: &G,
+    ) -> Found<J, V>
+        ensures left { is_left result ≡ true → 0 < seat.new.left }
+        ensures here { seat.new.here ≡ seat.old.here }
+    {
+        match self.at_free_desk() {
+            Some(desk) => self.look(desk, number, seat, gate),
+            None => Found::Nothing,
+        }
+    }
+
     /// What there is for a worker without a strand that has the lock, and gives it up. A thief comes to its point while it holds the lock. Who leaves
     /// takes two boxes of folded strands along and lets them go without the lock: else the first worker would have all of them before the answer.
     fn look<G: Gate>(
@@ -211,7 +227,8 @@ impl<J: Run + Ledger + Stocked + Send, D: Deques, V: View> Floor<'_, J, D, V> {
     }
 
     /// Small steps until the strand pauses, or as many as are done in one go, which leave its lowest instance as it is. Its worker pushes
-    /// nothing meanwhile, so whether the deque holds enough is asked once. Want of memory is the only error.
+    /// nothing meanwhile, so whether the deque holds enough is asked once. The go is over behind iterations that were recorded at once: they
+    /// may have lasted longer than thieves took to empty the deque. Want of memory is the only error.
     #[inline(always)]
     fn take_steps<R: Wait, G: Gate>(
         &self,
@@ -236,7 +253,7 @@ impl<J: Run + Ledger + Stocked + Send, D: Deques, V: View> Floor<'_, J, D, V> {
         for _ in 0..steps {
             self.steps_ahead(number, is_watched, is_alone, &mut spawned, strand, gate)?;
             if self.record_ahead(is_watched || is_alone, &mut spawned, strand, supply)? {
-                continue;
+                return Ok(Paused::Working);
             }
             match strand.advance(self.alloc, &self.scene, supply)? {
                 Paused::Working => {}

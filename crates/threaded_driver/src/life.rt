@@ -146,15 +146,16 @@ where
     let mut seat = seat;
     let mut found = found;
     let listener = floor.bell().listener();
-    listener.listen();
     for _ in rt.forever() {
+        let is_stolen = matches!(&found, Found::Stolen(_));
         found = match found {
             Found::Left => {
                 floor.bell().end();
                 return seat;
             }
             Found::Nothing => {
-                let next = floor.find(rt, number, &mut seat, gate);
+                listener.listen();
+                let next = floor.find_if_free(number, &mut seat, gate);
                 match &next {
                     Found::Nothing => listener.wait(rt),
                     _ => {}
@@ -162,10 +163,8 @@ where
                 next
             }
             Found::Own(held) | Found::Folded(held) | Found::Stolen(held) => {
-                listener.leave();
-                let next = floor.run_strand(rt, number, &mut seat, held, gate);
-                listener.listen();
-                next
+                listener.leave(is_stolen);
+                floor.run_strand(rt, number, &mut seat, held, gate)
             }
         };
     }
