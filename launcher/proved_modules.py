@@ -5,6 +5,7 @@ check that is given them loads those that are up to date in it, and checks the o
 ended from outside, even while it tries edits, leaves them to the next one, which may take the crates' proofs as they are kept.
 """
 import contextlib
+import fcntl
 import glob
 import os
 import re
@@ -32,7 +33,7 @@ class ProvedModules:
     def __init__(self, top, kit, crates):
         self.top, self.folder, self.crates, self.saved_by, self.given = top, folder_of(kit), frozenset(crates), {}, set()
         self.rooms = f"{tempfile.gettempdir()}/proved-modules"
-        self.room, self.over = f"{self.rooms}-{os.getpid()}", threading.Event()
+        self.room, self.held, self.over = f"{self.rooms}-{os.getpid()}", None, threading.Event()
         self.looking = threading.Thread(target=self.stay, daemon=True)
 
     def __enter__(self):
@@ -46,17 +47,25 @@ class ProvedModules:
         if self.folder:
             self.looking.join()
             shutil.rmtree(self.room, ignore_errors=True)
+            os.close(self.held)
 
     def take_over(self):
-        """Makes the folder for the modules, with those that are left of runs that have ended."""
+        """Makes the folder for the modules, with those that are left of runs that have ended: a run holds a lock on its folder, which goes with it,
+        while its number may be another process's by then."""
         shutil.rmtree(self.room, ignore_errors=True)
         os.mkdir(self.room, 0o700)
+        self.held = os.open(self.room, os.O_RDONLY)
+        fcntl.flock(self.held, fcntl.LOCK_EX)
         for left in self.others():
             with contextlib.suppress(OSError):
-                if not os.path.exists(f"/proc/{left.rpartition('-')[2]}"):
+                its = os.open(left, os.O_RDONLY)
+                try:
+                    fcntl.flock(its, fcntl.LOCK_EX | fcntl.LOCK_NB)
                     for crate in self.crates.intersection(os.listdir(left)).difference(os.listdir(self.room)):
                         os.rename(f"{left}/{crate}", f"{self.room}/{crate}")
                     shutil.rmtree(left, ignore_errors=True)
+                finally:
+                    os.close(its)
 
     def others(self):
         """The folders of other runs of the same user, the newest first."""

@@ -1,4 +1,5 @@
 """Tests of launcher/together.py and launcher/proved_modules.py with a kit that proves nothing. launcher/tests.py runs them."""
+import fcntl
 import os
 import shutil
 import subprocess
@@ -283,9 +284,7 @@ class Proofs(unittest.TestCase):
         self.assertFalse(os.path.exists(modules.room))
 
     def test_modules_that_an_ended_run_has_left_are_given_until_the_crate_is_proved_anew(self):
-        ended = subprocess.Popen([sys.executable, "-c", ""])
-        ended.wait()
-        left = self.left_by(ended.pid, "toy", "more", "other")
+        left = self.left_by(os.getppid(), "toy", "more", "other")
         self.proof("toy")
         with ProvedModules(self.top, f"{self.top}/kit", ["toy", "more"]) as modules:
             self.stays(modules)
@@ -304,6 +303,9 @@ class Proofs(unittest.TestCase):
 
     def test_modules_of_a_run_at_work_elsewhere_are_given_and_stay_there(self):
         other = self.left_by(os.getppid(), "toy", "other")
+        at_work = os.open(other, os.O_RDONLY)
+        self.addCleanup(os.close, at_work)
+        fcntl.flock(at_work, fcntl.LOCK_EX)
         with ProvedModules(self.top, f"{self.top}/kit", ["toy"]) as modules:
             self.assertEqual(os.listdir(modules.room), [])
             self.assertEqual(self.given(modules, "toy", "toy"), [["old.oantt"], None])
