@@ -1,6 +1,7 @@
 // One round of starts.py: what a thread takes for work that one does in some ten milliseconds, with three more that are started so:
 // 0 none, 1 all by the first, 2 two by the first and the third by the first new one, 3 each by the one before it, 4 all by the first, each
-// kept on a processor of its own. Prints microseconds until all is done, and behind how many each thread began.
+// kept on a processor of its own, 5 all by the first a fifth of a second before, which sleep until it wakes them. Prints microseconds until
+// all is done, and behind how many each thread began.
 #define _GNU_SOURCE
 #include <pthread.h>
 #include <sched.h>
@@ -27,12 +28,27 @@ static void stay(long thread) {
   sched_setaffinity(0, sizeof one, &one);
 }
 static void *life(void *arg);
+static pthread_mutex_t turn = PTHREAD_MUTEX_INITIALIZER;
+static pthread_cond_t rung = PTHREAD_COND_INITIALIZER;
+static int has_rung;
+static void sleep_until_rung(void) {
+  pthread_mutex_lock(&turn);
+  while (!has_rung) pthread_cond_wait(&rung, &turn);
+  pthread_mutex_unlock(&turn);
+}
+static void ring(void) {
+  pthread_mutex_lock(&turn);
+  has_rung = 1;
+  pthread_cond_broadcast(&rung);
+  pthread_mutex_unlock(&turn);
+}
 static void start(long thread) { pthread_create(&threads[thread], NULL, life, (void *)thread); }
 static void *life(void *arg) {
   long thread = (long)arg;
   if (way == 2 && thread == 1) start(3);
   if (way == 3 && thread < THREADS - 1) start(thread + 1);
   if (way == 4) stay(thread);
+  if (way == 5 && thread) sleep_until_rung();
   begun[thread] = now() - begin_of_all;
   while (atomic_fetch_add(&next_unit, 1) < UNITS) unit();
   if (way == 2 && thread == 1) pthread_join(threads[3], NULL);
@@ -41,10 +57,17 @@ static void *life(void *arg) {
 }
 int main(int count, char **words) {
   way = count > 1 ? atoi(words[1]) : 0;
+  int started = way == 0 ? 0 : way == 2 ? 2 : way == 3 ? 0 : 3;
+  struct timespec fifth = {0, 200000000};
+  if (way == 5) {
+    for (long thread = 1; thread <= started; thread++) start(thread);
+    nanosleep(&fifth, NULL);
+  }
   for (int i = 0; i < FEW; i++) unit();
   begin_of_all = now();
-  int started = way == 0 ? 0 : way == 2 ? 2 : way == 3 ? 0 : 3;
-  for (long thread = 1; thread <= started; thread++) start(thread);
+  if (way == 5) ring();
+  else
+    for (long thread = 1; thread <= started; thread++) start(thread);
   life((void *)0);
   for (long thread = 1; thread <= started; thread++) pthread_join(threads[thread], NULL);
   printf("%ld", now() - begin_of_all);
