@@ -19,10 +19,15 @@ class Handover:
     def __init__(self, rt):
         self.rt, self.at_work, self.is_asked, self.turn = rt, 0, False, threading.Lock()
 
-    def ask(self, *_signal):
+    def await_signal(self):
+        """Waits for the signal in a thread of its own: a handler runs in the first thread alone, which may be about to wait for a task."""
+        signal.sigwait({ASKED})
+        self.ask()
+
+    def ask(self):
         """Has no further task begin, and the run end where none is at work."""
         self.is_asked = True
-        threading.Thread(target=self.look, daemon=True).start()
+        self.look()
 
     def look(self):
         """Ends the run where it is asked to end and no task is at work."""
@@ -70,4 +75,6 @@ def begin(rt):
     """Has that rt's tasks counted, and its run end so when it is asked to."""
     handover, in_lanes = Handover(rt), rt.in_lanes
     rt.in_lanes = lambda tasks: in_lanes(handover.counted(tasks))
-    signal.signal(ASKED, handover.ask)
+    # Threads and processes that are started from here on leave the signal to that thread.
+    signal.pthread_sigmask(signal.SIG_BLOCK, {ASKED})
+    threading.Thread(target=handover.await_signal, daemon=True).start()
