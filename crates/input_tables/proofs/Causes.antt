@@ -39,28 +39,28 @@ refused false false false own s error h = absurd cc
 
 module _ (now : Edited) (row : ℤ) (x : Listed) (program : Revised) (lines : List Lined) (t : Name) where
   put_allowed : (vs : List ℤ) → put_refusal row (length vs) (length x.columns) now.edits ≡ None
-      → put_in (beside program lines now) t row vs (Some x) ≡ Ok (beside program lines (edited (row_into row vs) now t))
+      → put_in (beside program lines now) t row vs (Some x) ≡ Ok (edited program lines (row_into row vs) now t)
   put_allowed vs h =
       allowed (not (in_range row)) (not (nat_eq (length vs) (length x.columns))) (nat_eq now.edits most) e.WrongColumns
-      (beside program lines (edited (row_into row vs) now t)) h
+      (edited program lines (row_into row vs) now t) h
 
   put_refused : (vs : List ℤ) (error : RowError) → put_refusal row (length vs) (length x.columns) now.edits ≡ Some error
       → put_in (beside program lines now) t row vs (Some x) ≡ Err (row_refusal error)
   put_refused vs error h =
       refused (not (in_range row)) (not (nat_eq (length vs) (length x.columns))) (nat_eq now.edits most) e.WrongColumns
-      (beside program lines (edited (row_into row vs) now t)) error h
+      (edited program lines (row_into row vs) now t) error h
 
   delete_allowed : delete_refusal row (is_there (row_of x.rows row)) now.edits ≡ None
-      → delete_in (beside program lines now) t row (Some x) ≡ Ok (beside program lines (edited (row_out_of row) now t))
+      → delete_in (beside program lines now) t row (Some x) ≡ Ok (edited program lines (row_out_of row) now t)
   delete_allowed h =
       allowed (not (in_range row)) (not (is_there (row_of x.rows row))) (nat_eq now.edits most) e.NoRow
-      (beside program lines (edited (row_out_of row) now t)) h
+      (edited program lines (row_out_of row) now t) h
 
   delete_refused : (error : RowError) → delete_refusal row (is_there (row_of x.rows row)) now.edits ≡ Some error
       → delete_in (beside program lines now) t row (Some x) ≡ Err (row_refusal error)
   delete_refused error h =
       refused (not (in_range row)) (not (is_there (row_of x.rows row))) (nat_eq now.edits most) e.NoRow
-      (beside program lines (edited (row_out_of row) now t)) error h
+      (edited program lines (row_out_of row) now t) error h
 
 -- what a check of these numbers says of the table that stands there
 module _ (now : Edited) (m row : ℤ) (edits : ℕ) (x : Listed) (o : Option Listed) (same : m ≡ row) (count : edits ≡ now.edits) (stands : o ≡ Some x) where
@@ -74,7 +74,7 @@ module _ (now : Edited) (m row : ℤ) (edits : ℕ) (x : Listed) (o : Option Lis
 
   pub may_put : (r : Result (Unit {0}) RowError) (values columns : ℕ) → columns ≡ length x.columns → OnOk r (put_refusal m values columns edits ≡ None)
       → OnOk r ((t : Name) (program : Revised) (lines : List Lined) (vs : List ℤ) → length vs ≡ values
-      → put_in (beside program lines now) t row vs o ≡ Ok (beside program lines (edited (row_into row vs) now t)))
+      → put_in (beside program lines now) t row vs o ≡ Ok (edited program lines (row_into row vs) now t))
   may_put (Ok u) values columns wide h = λ t program lines vs many.
       rw stands (put_allowed now row x program lines t vs (put_numbers values columns vs wide many ∙ h))
   may_put (Err error) values columns wide h = h
@@ -89,7 +89,7 @@ module _ (now : Edited) (m row : ℤ) (edits : ℕ) (x : Listed) (o : Option Lis
 
   pub may_delete : (r : Result (Unit {0}) RowError) (there : Bool) → there ≡ is_there (row_of x.rows m) → OnOk r (delete_refusal m there edits ≡ None)
       → OnOk r ((t : Name) (program : Revised) (lines : List Lined)
-      → delete_in (beside program lines now) t row o ≡ Ok (beside program lines (edited (row_out_of row) now t)))
+      → delete_in (beside program lines now) t row o ≡ Ok (edited program lines (row_out_of row) now t))
   may_delete (Ok u) there is h = λ t program lines. rw stands (delete_allowed now row x program lines t (delete_numbers there is ∙ h))
   may_delete (Err error) there is h = h
 

@@ -4,6 +4,7 @@ pub mod Causes
 pub mod Counts
 pub mod Laid
 pub mod Listed
+pub mod Notes
 pub mod Numbered
 pub mod Ordered
 pub mod Orders

@@ -40,7 +40,7 @@ without_rows name cs = record { called = name; columns = cs; rows = [] }
 
 -- the tables and one more behind them; it is no edit
 abbrev pub with_table : Edited → Listed → Edited
-with_table old t = record { tables = old.tables ++ t ∷ []; edits = old.edits }
+with_table old t = record { tables = old.tables ++ t ∷ []; edits = old.edits; was = old.was }
 
 -- ---- in a document
 

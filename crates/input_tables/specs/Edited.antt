@@ -1,5 +1,5 @@
 -- Tables that are edited, and what is read of them by number.
-use Rattle.std.specs.Prelude.{◌≡◌, ℕ, zero, suc, ℤ, pos, Bool, List, [], ◌∷◌, Option, Some, Result, Err, IsOk, map}
+use Rattle.std.specs.Prelude.{◌≡◌, ◌≤◌, ℕ, zero, suc, ℤ, pos, Bool, List, [], ◌∷◌, length, Option, Some, Result, Err, IsOk, map}
 use Rattle.std.specs.Int.{w64, int_wrap}
 use Rattle.meaning.specs.Tree.{Name}
 use Rattle.meaning.specs.TreeView.{Lined}
@@ -8,15 +8,17 @@ use Rattle.monoid_laws.specs.Kinds.{Fits}
 use Rattle.meaning.specs.Tables.{Tables, Listed, row_of, at_column, is_there, above_all, column_total, cell_of}
 use Rattle.meaning.specs.Edits.{row_put, row_gone, with_rows, table_changed, Standing, EditRefusal, UnknownTable, WrongColumns, RowRange, NoRow, Exhausted}
 use Rattle.input_tables.specs.Rows.{Row}
+use Rattle.input_tables.specs.Befores.{PlainBefore, total_at}
 use Rattle.table_parts.specs.declared.refusals.RowError.{RowError}
 use Rattle.table_parts.specs.declared.refusals.RowError.TheVariants as e
 use Rattle.input_tables.specs.declared.refusal.PutError.{PutError}
 use Rattle.input_tables.specs.declared.refusal.PutError.TheVariants.{NoMemory, Refused}
 
--- tables, and how many of their edits were accepted
+-- tables, how many of their edits were accepted, and what the row of the last one was before it
 pub record Edited : Type 0 where
   pub tables : Tables
   pub edits : ℕ
+  pub was : PlainBefore
 
 -- the tables beside a program and its lines
 abbrev pub beside : Revised → List Lined → Edited → Standing
@@ -60,9 +62,28 @@ row_into row vs t = with_rows t (row_put row vs t.rows)
 abbrev pub row_out_of : ℤ → Listed → Listed
 row_out_of row t = with_rows t (row_gone row t.rows)
 
--- one more edit was accepted, which changed the table of a name
-abbrev pub edited : (Listed → Listed) → Edited → Name → Edited
-edited f now t = record { tables = table_changed f now.tables t; edits = suc now.edits }
+-- one more edit was accepted, which changed the table of a name, beside a program and its lines
+abbrev pub edited : Revised → List Lined → (Listed → Listed) → Edited → Name → Standing
+edited program lines f now t = record { program = program; lines = lines; tables = table_changed f now.tables t; edits = suc now.edits }
+
+-- ---- what a row was before an edit
+
+-- so the tables have it, with a sum for each column
+pub record IsBefore (tables : Tables) (b : PlainBefore) : Type 0 where
+  pub values_are : row_of (rows_at tables b.table) b.row ≡ b.values
+  pub limit_is : limit_at tables b.table ≡ b.limit
+  pub sums_are : (c : ℕ) → sum_at tables b.table c ≡ total_at b.sums c
+  pub wide : length b.sums ≡ length (columns_at tables b.table)
+
+-- it is that row, as these tables have it
+pub record IsNoted (tables : Tables) (table : ℕ) (row : ℤ) (was : PlainBefore) : Type 0 where
+  pub table_is : was.table ≡ table
+  pub row_is : was.row ≡ row
+  pub before : IsBefore tables was
+
+-- no table has more columns than that
+abbrev pub HasNoMore : Tables → ℕ → Type 0
+HasNoMore ts most = (n : ℕ) → length (columns_at ts n) ≤ most
 
 -- the definitions' refusal that the refusal of an edit of a row is
 abbrev pub row_refusal : RowError → EditRefusal

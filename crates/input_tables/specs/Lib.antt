@@ -1,4 +1,5 @@
 pub mod Adding
+pub mod Befores
 pub mod Document
 pub mod Edited
 pub mod Faults

@@ -2,6 +2,7 @@
 #![tactic(auto)]
 
 mod adding;
+mod before;
 mod document;
 mod names;
 mod page;
@@ -12,6 +13,7 @@ mod shapes;
 mod table;
 mod tables;
 
+pub use before::Before;
 pub use refusal::{AddError, PutError, TablesError};
 pub use table_parts::refusals::RowError;
 pub use tables::Tables;

@@ -162,6 +162,14 @@ impl Table {
         }
     }
 
+    /// Lends the sums of all columns over all rows, each wrapped to 64 bits.
+    pub fn sums(&self) -> &[i64]
+        ensures many { length result.now ≡ length self.now.columns }
+        ensures totals { AreTotals result.now self.now.rows }
+    {
+        &self.sums
+    }
+
     /// What the type keeps: each cell is a number of 64 bits.
     pub fn cells_fit(&self)
         ensures fit { RowsFit self.now.rows }

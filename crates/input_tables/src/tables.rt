@@ -13,32 +13,40 @@ ghost use Rattle.meaning.specs.Edits.{after_put, put_in, after_delete, delete_in
 ghost use Rattle.input_tables.specs.Edited.{beside, row_refusal, IsPutCause, edited, changed_at, row_into, row_out_of, names_of};
 ghost use Rattle.input_tables.specs.Rows.{AreWide};
 ghost use Rattle.input_tables.specs.Edited.{columns_at, rows_at, cell_at, has_at, limit_at, sum_at, CellsFit};
+ghost use Rattle.input_tables.specs.Edited.{IsNoted, HasNoMore};
 
 use crate::adding;
+use crate::before::Before;
 use crate::document::tables_in;
 use crate::refusal::{AddError, PutError, TablesError};
 use crate::table::{Table, find};
 use std::alloc::{AllocError, Global};
 use std::marker::Model;
+use std::mem;
 use table_parts::found::value_in;
 use table_parts::refusals;
 use table_parts::refusals::RowError;
 use table_parts::texts::document;
 
-/// Tables, and how many of their edits were accepted. Those of a document stand in byte order of their names, and tables
-/// that are added stand behind them.
+/// Tables, how many of their edits were accepted, and what the row of the last one was before it. Those of a document stand in byte
+/// order of their names, and tables that are added stand behind them.
 #[derive(Drop)]
 pub struct Tables {
     listed: Vec<Table>,
     edits: u64,
+    // The row that was edited last, as it was, and as much room for the row that is edited next: a refused edit leaves the first.
+    before: Before,
+    next: Before,
 }
 
 impl Model for Tables {
-    ghost use Rattle.input_tables.specs.Edited.{Edited};
+    ghost use Rattle.input_tables.specs.Edited.{Edited, HasNoMore};
 
     ghost Value = { Edited };
 
-    ghost view = { λ t. record { tables = t.listed.items; edits = t.edits } };
+    ghost view = { λ t. record { tables = t.listed.items; edits = t.edits; was = t.before.was } };
+
+    ghost invariant = { λ t. HasNoMore t.listed.items t.before.room × HasNoMore t.listed.items t.next.room };
 }
 
 impl Tables {
@@ -47,7 +55,12 @@ impl Tables {
         ensures tables { result.tables ≡ [] }
         ensures edits { result.edits ≡ 0 }
     {
-        unedited(Vec::new(alloc))
+        Tables {
+            listed: Vec::new(alloc),
+            edits: 0,
+            before: Before::new(alloc),
+            next: Before::new(alloc),
+        }
     }
 
     /// The tables of a document; refused where it isn't TOML, at its 65th table, at its first faulty one, or for want of
@@ -58,7 +71,10 @@ impl Tables {
         ensures refused { IfErr result (HasCause text.now) }
     {
         match document(alloc, text)? {
-            Some(document) => Ok(unedited(tables_in(alloc, &document)?)),
+            Some(document) => {
+                let listed = tables_in(alloc, &document)?;
+                Ok(unedited(alloc, listed)?)
+            }
             None => Err(TablesError::NotToml),
         }
     }
@@ -81,6 +97,8 @@ impl Tables {
     {
         adding::check(&self.listed, name, columns)?;
         let table = Table::without_rows(alloc, name, columns)?;
+        self.before.make_room(columns.len())?;
+        self.next.make_room(columns.len())?;
         self.listed.push(table)?;
         Ok(())
     }
@@ -90,6 +108,20 @@ impl Tables {
         ensures { result ≡ self.now.edits }
     {
         self.edits
+    }
+
+    /// Lends the row of the last edit that was accepted, as it was before it, with its table's limit and sums.
+    pub fn before(&self) -> &Before
+        ensures was { result.now.was ≡ self.now.was }
+    {
+        &self.before
+    }
+
+    /// No table has more columns than that.
+    pub fn most_columns(&self) -> usize
+        ensures most { HasNoMore self.now.tables result }
+    {
+        self.before.room()
     }
 
     /// How many tables there are.
@@ -267,8 +299,8 @@ impl Tables {
         }
     }
 
-    /// Puts a row into a table, in the place of the one of its number, and answers the table's number. Refused by E4, E6, E5,
-    /// E18, or for want of memory, in this order; a refusal changes nothing.
+    /// Puts a row into a table, in the place of the one of its number, and answers the table's number; what the row was is noted.
+    /// Refused by E4, E6, E5, E18, or for want of memory, in this order; a refusal changes nothing.
     pub fn put(
         &mut self,
         alloc: Global,
@@ -281,6 +313,7 @@ impl Tables {
         ensures put { OnOk result ((program : Revised) (lines : List Lined)
             → after_put (beside program lines self.old) table.now row values.now
             ≡ Ok (beside program lines self.new)) }
+        ensures noted { IfOk result (λ number. IsNoted self.old.tables number row self.new.was) }
         ensures refused { IfErr result (λ error. (program : Revised) (lines : List Lined)
             → IsPutCause (after_put (beside program lines self.old) table.now row values.now)
             error) }
@@ -297,14 +330,15 @@ impl Tables {
         }
     }
 
-    /// Puts a row into the table of a number, in the place of the one of its own. Refused by E6, E5, E18, or for want of memory,
-    /// in this order; a refusal changes nothing.
+    /// Puts a row into the table of a number, in the place of the one of its own; what the row was is noted. Refused by E6, E5, E18, or
+    /// for want of memory, in this order; a refusal changes nothing.
     pub fn put_at(&mut self, number: usize, row: i64, values: &[i64]) -> Result<(), PutError>
         requires { number < length self.old.tables }
         ensures put { OnOk result ((t : Name) → number ≡ index_of (names_of self.old.tables) t
             → (program : Revised) (lines : List Lined)
             → after_put (beside program lines self.old) t row values.now
             ≡ Ok (beside program lines self.new)) }
+        ensures noted { OnOk result (IsNoted self.old.tables number row self.new.was) }
         ensures refused { IfErr result (λ error. (t : Name)
             → number ≡ index_of (names_of self.old.tables) t
             → (program : Revised) (lines : List Lined)
@@ -320,14 +354,15 @@ impl Tables {
         }
     }
 
-    /// Takes a row out of a table, and answers the table's number. Refused by E4, E6, E7, E18, in this order; a refusal changes
-    /// nothing. It takes no memory, and is never refused for want of it.
+    /// Takes a row out of a table, and answers the table's number; what the row was is noted. Refused by E4, E6, E7, E18, in this
+    /// order; a refusal changes nothing. It takes no memory, and is never refused for want of it.
     pub fn delete(&mut self, table: &str, row: i64) -> Result<usize, RowError>
         ensures number { IfOk result (λ number. number
             ≡ index_of (names_of self.old.tables) table.now) }
         ensures deleted { OnOk result ((program : Revised) (lines : List Lined)
             → after_delete (beside program lines self.old) table.now row
             ≡ Ok (beside program lines self.new)) }
+        ensures noted { IfOk result (λ number. IsNoted self.old.tables number row self.new.was) }
         ensures refused { IfErr result (λ error. (program : Revised) (lines : List Lined)
             → after_delete (beside program lines self.old) table.now row
             ≡ Err (row_refusal error)) }
@@ -342,14 +377,15 @@ impl Tables {
         }
     }
 
-    /// Takes a row out of the table of a number. Refused by E6, E7, E18, in this order; a refusal changes nothing. It takes no
-    /// memory, and is never refused for want of it.
+    /// Takes a row out of the table of a number; what the row was is noted. Refused by E6, E7, E18, in this order; a refusal changes
+    /// nothing. It takes no memory, and is never refused for want of it.
     pub fn delete_at(&mut self, number: usize, row: i64) -> Result<(), RowError>
         requires { number < length self.old.tables }
         ensures deleted { OnOk result ((t : Name) → number ≡ index_of (names_of self.old.tables) t
             → (program : Revised) (lines : List Lined)
             → after_delete (beside program lines self.old) t row
             ≡ Ok (beside program lines self.new)) }
+        ensures noted { OnOk result (IsNoted self.old.tables number row self.new.was) }
         ensures refused { IfErr result (λ error. (t : Name)
             → number ≡ index_of (names_of self.old.tables) t
             → (program : Revised) (lines : List Lined)
@@ -381,7 +417,7 @@ impl Tables {
         ensures room { OnOk result (self.now.edits < 18446744073709551615) }
         ensures allowed { OnOk result ((t : Name) (program : Revised) (lines : List Lined) (vs : List ℤ) → length vs ≡ values
             → put_in (beside program lines self.now) t row vs (slice_get self.now.tables number)
-            ≡ Ok (beside program lines (edited (row_into row vs) self.now t))) }
+            ≡ Ok (edited program lines (row_into row vs) self.now t)) }
         ensures refused { IfErr result (λ error. (t : Name) (program : Revised) (lines : List Lined) (vs : List ℤ) → length vs ≡ values
             → put_in (beside program lines self.now) t row vs (slice_get self.now.tables number) ≡ Err (row_refusal error)) }
     {
@@ -395,7 +431,7 @@ impl Tables {
         ensures room { OnOk result (self.now.edits < 18446744073709551615) }
         ensures allowed { OnOk result ((t : Name) (program : Revised) (lines : List Lined)
             → delete_in (beside program lines self.now) t row (slice_get self.now.tables number)
-            ≡ Ok (beside program lines (edited (row_out_of row) self.now t))) }
+            ≡ Ok (edited program lines (row_out_of row) self.now t)) }
         ensures refused { IfErr result (λ error. (t : Name) (program : Revised) (lines : List Lined)
             → delete_in (beside program lines self.now) t row (slice_get self.now.tables number)
             ≡ Err (row_refusal error)) }
@@ -404,7 +440,7 @@ impl Tables {
         refusals::check_delete(row, there, self.edit_number())
     }
 
-    // Puts a row into the table of a number, and counts the edit.
+    // Puts a row into the table of a number, notes what it was, and counts the edit.
     fn put_row(&mut self, number: usize, row: i64, values: &[i64]) -> Result<(), AllocError>
         requires within { number < length self.old.tables }
         requires wide { length values.now ≡ length (columns_at self.old.tables number) }
@@ -412,21 +448,26 @@ impl Tables {
         requires room { self.old.edits < 18446744073709551615 }
         ensures tables { OnOk result (self.new.tables ≡ changed_at (row_into row values.now) self.old.tables number) }
         ensures edits { OnOk result (self.new.edits ≡ suc self.old.edits) }
+        ensures noted { OnOk result (IsNoted self.old.tables number row self.new.was) }
         ensures same { OnErr result (self.new ≡ self.old) }
     {
+        self.next.note(&self.listed[number], number, row);
         let table = &mut self.listed[number];
         table.put(row, values)?;
+        mem::swap(&mut self.before, &mut self.next);
         self.count_edit();
         Ok(())
     }
 
-    // Takes a row out of the table of a number, and counts the edit.
+    // Takes a row out of the table of a number, notes what it was, and counts the edit.
     fn take_row(&mut self, number: usize, row: i64)
         requires within { number < length self.old.tables }
         requires room { self.old.edits < 18446744073709551615 }
         ensures tables { self.new.tables ≡ changed_at (row_out_of row) self.old.tables number }
         ensures edits { self.new.edits ≡ suc self.old.edits }
+        ensures noted { IsNoted self.old.tables number row self.new.was }
     {
+        self.before.note(&self.listed[number], number, row);
         let table = &mut self.listed[number];
         table.delete(row);
         self.count_edit();
@@ -437,16 +478,46 @@ impl Tables {
         requires { self.old.edits < 18446744073709551615 }
         ensures tables { self.new.tables ≡ self.old.tables }
         ensures edits { self.new.edits ≡ suc self.old.edits }
+        ensures was { self.new.was ≡ self.old.was }
     {
         let edits = &mut self.edits;
         *edits += 1;
     }
 }
 
-// Tables that were not edited yet.
-fn unedited(listed: Vec<Table>) -> Tables
-    ensures tables { result.tables ≡ listed.items }
-    ensures edits { result.edits ≡ 0 }
+// Tables that were not edited yet, with room to note a row of each.
+fn unedited(alloc: Global, listed: Vec<Table>) -> Result<Tables, AllocError>
+    ensures tables { IfOk result (λ made. made.tables ≡ listed.items) }
+    ensures edits { IfOk result (λ made. made.edits ≡ 0) }
 {
-    Tables { listed, edits: 0 }
+    let columns = most_columns(&listed);
+    let before = Before::with_room(alloc, columns)?;
+    let next = Before::with_room(alloc, columns)?;
+    Ok(Tables {
+        listed,
+        edits: 0,
+        before,
+        next,
+    })
+}
+
+// How many columns the widest table has.
+fn most_columns(tables: &[Table]) -> usize
+    ensures most { HasNoMore tables.now result }
+{
+    let mut most = 0;
+    for number in 0..tables.len() {
+        most = most.max(width_of(tables, number));
+    }
+    most
+}
+
+// How many columns the table of a number has; 0 where there is no such table.
+fn width_of(tables: &[Table], number: usize) -> usize
+    ensures many { result ≡ length (columns_at tables.now number) }
+{
+    match tables.get(number) {
+        Some(table) => table.column_count(),
+        None => 0,
+    }
 }

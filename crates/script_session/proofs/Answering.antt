@@ -33,7 +33,7 @@ one_more_answer s t runs after k items command done all h at left counted before
 pub first_written : (s : PlainSession) → s.tables.edits ≡ 0 → (P : List ℕ → Type 0) (script : List ℕ) → P (answers_of s script)
     → P (first_answers s.checked s.tables.tables script)
 first_written s e P script h =
-    subst (λ (n : ℕ). P (answers_text (standing s.checked (record { tables = s.tables.tables; edits = n })) script)) e h
+    subst (λ (n : ℕ). P (answers_text (standing s.checked (record { tables = s.tables.tables; edits = n; was = s.tables.was })) script)) e h
 
 -- a command is at most one more run
 pub runs_after-le : (runs k n : ℕ) (command : script.Command) → n ≡ runs_after runs command → runs ≤ k → n ≤ k + 1

@@ -97,7 +97,7 @@ runs_behind-le runs k n (Some (meant.Unknown line)) is few = rw is (omega (arith
 pub first_read : (s : PlainSession) → s.tables.edits ≡ 0 → (unread left old new : Option (List ℕ))
     → WritesRead (session_so_far s) unread left old new → WritesRead (first_so_far s.checked s.tables.tables) unread left old new
 first_read s e unread left old new h =
-    subst (λ (n : ℕ). WritesRead (answers_so_far (standing s.checked (record { tables = s.tables.tables; edits = n }))) unread left old new) e h
+    subst (λ (n : ℕ). WritesRead (answers_so_far (standing s.checked (record { tables = s.tables.tables; edits = n; was = s.tables.was }))) unread left old new) e h
 
 pub nothing_answered : (s : Standing) (script : PlainOpen) (unread old : Option (List ℕ)) → script ≡ nothing_come → HasAnswered s s 0 script unread unread old old
 nothing_answered s script unread old is = rw is (record {

@@ -8,6 +8,7 @@ use Rattle.meaning.specs.Script.{Command}
 use Rattle.meaning.specs.Text as text
 use Rattle.meaning.specs.Text.{run_text}
 use Rattle.linked_program.specs.Checked.{PlainChecked}
+use Rattle.input_tables.specs.Befores.{no_row}
 use Rattle.input_tables.specs.Edited.{Edited}
 use Rattle.checked_defines.specs.Readers.{reads_text, checks_rules}
 use Rattle.checked_defines.specs.Standings.{standing}
@@ -38,7 +39,7 @@ answers_text = text.answers_text reads_text checks_rules
 
 -- tables that nothing was edited of
 abbrev pub unedited : Tables → Edited
-unedited tables = record { tables = tables; edits = 0 }
+unedited tables = record { tables = tables; edits = 0; was = no_row }
 
 -- the answers to the first script of a checked program and its tables
 abbrev pub first_answers : PlainChecked → Tables → List ℕ → List ℕ

@@ -1,6 +1,6 @@
 //! Questions to tables, with their answers.
 
-use input_tables::Tables;
+use input_tables::{Before, Tables};
 
 /// A question to tables, with its answer.
 #[derive(Clone, Copy)]
@@ -13,6 +13,8 @@ pub enum Look {
     Limit(usize, i64),
     Sum(usize, usize, i64),
     Cell(usize, i64, usize, Option<i64>),
+    /// The row of the last edit, its first value before it, and what its table's limit and first sum were.
+    Before(usize, i64, Option<i64>, i64, i64),
 }
 
 /// Whether there is a table of this number and name.
@@ -36,6 +38,15 @@ fn has_two_columns(tables: &Tables, table: usize, first: &str, second: &str) -> 
     columns.len() == 2 && is_text(columns.first(), first) && is_text(columns.last(), second)
 }
 
+/// Whether what the row of the last edit was has this first value, with this limit and first sum.
+fn was(before: &Before, value: Option<i64>, limit: i64, sum: i64) -> bool {
+    let found = match before.values() {
+        Some(values) => values.first().copied(),
+        None => None,
+    };
+    found == value && before.limit() == limit && before.sums().first().copied() == Some(sum)
+}
+
 /// Whether the tables answer so.
 fn is_answered(tables: &Tables, look: &Look) -> bool {
     match *look {
@@ -47,6 +58,9 @@ fn is_answered(tables: &Tables, look: &Look) -> bool {
         Look::Limit(table, limit) => tables.limit(table) == limit,
         Look::Sum(table, column, sum) => tables.sum(table, column) == sum,
         Look::Cell(table, row, column, value) => tables.cell(table, row, column) == value,
+        Look::Before(table, row, value, limit, sum) => {
+            tables.before().place() == (table, row) && was(tables.before(), value, limit, sum)
+        }
     }
 }
 

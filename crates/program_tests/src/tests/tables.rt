@@ -10,8 +10,8 @@ use std::process::Abort;
 const COLUMNS: [&str; 2] = ["qty", "price"];
 
 /// What is read of a table that is added behind the example's, and of a row that is put into it and changed; a column and a table that
-/// there isn't have the sum 0.
-const ADDED: [Look; 12] = [
+/// there isn't have the sum 0. The last edit took out the example's last row, and a refused one behind it changed nothing.
+const ADDED: [Look; 13] = [
     Look::Tables(2),
     Edits(3),
     Table("sales", Some(0)),
@@ -24,6 +24,7 @@ const ADDED: [Look; 12] = [
     Sum(1, 1, 5),
     Sum(0, 2, 0),
     Sum(2, 0, 0),
+    Look::Before(0, 3, Some(1), 4, 6),
 ];
 
 /// A table's name, its columns, and why it isn't added.
@@ -62,12 +63,13 @@ fn add(rt: &impl Abort, alloc: Global, tables: &mut Tables) {
     tables.put(alloc, "parts", 7, &[3, 4]).expect(rt, "a row");
 }
 
-/// Edits by the numbers of tables: another row in the place of the one that was put, and the example's last one taken out.
+/// Edits by the numbers of tables: another row in the place of the one that was put, and the example's last one taken out, once.
 fn edit(rt: &impl Abort, tables: &mut Tables) {
     let parts = tables.table("parts").expect(rt, "a table");
     tables.put_at(parts, 7, &[3, 5]).expect(rt, "a row");
     let sales = tables.table("sales").expect(rt, "a table");
     tables.delete_at(sales, 3).expect(rt, "a row");
+    assert!(rt; tables.delete_at(sales, 3).is_err());
 }
 
 #[test]

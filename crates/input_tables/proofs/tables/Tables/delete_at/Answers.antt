@@ -12,7 +12,7 @@ returns-in-Ok-clause-deleted c = λ t place program lines.
     let allowed = rw (to_z-of_z w64 _ c.ranges.row) at (c.in-Ok.ensures.allowed t program lines) in
     let tables = rw (to_z-of_z w64 _ c.ranges.row) at c.take_row.ensures.tables in
     sym (ap (delete_in (beside program lines old) t c.args.row) (table_of-number old.tables t c.args.number place)) ∙ allowed
-    ∙ ap (λ e. Ok (beside program lines e)) (edited_by_number (row_out_of c.args.row) old c.take_row.new.self t c.args.number place tables c.take_row.ensures.edits)
+    ∙ ap Ok (edited_by_number program lines (row_out_of c.args.row) old c.take_row.new.self t c.args.number place tables c.take_row.ensures.edits)
 
 pub returns-in-Err-clause-refused : goal.returns-in-Err-clause-refused
 returns-in-Err-clause-refused c = λ t place program lines.

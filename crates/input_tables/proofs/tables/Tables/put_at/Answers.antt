@@ -15,7 +15,7 @@ returns-in_ok-put_row-in-Ok-clause-put c = λ t place program lines.
     let allowed = rw (to_z-of_z w64 _ c.ranges.row) at (c.in-Ok.ensures.allowed t program lines vs refl) in
     let tables = rw (to_z-of_z w64 _ c.ranges.row) at c.in_ok-put_row-in-Ok.ensures.tables in
     sym (ap (put_in (beside program lines old) t c.args.row vs) (table_of-number old.tables t c.args.number place)) ∙ allowed
-    ∙ ap (λ e. Ok (beside program lines e)) (edited_by_number (row_into c.args.row vs) old c.put_row.new.self t c.args.number place tables c.in_ok-put_row-in-Ok.ensures.edits)
+    ∙ ap Ok (edited_by_number program lines (row_into c.args.row vs) old c.put_row.new.self t c.args.number place tables c.in_ok-put_row-in-Ok.ensures.edits)
 
 pub returns-in_err-put_row-in-Ok-clause-refused : goal.returns-in_err-put_row-in-Ok-clause-refused
 returns-in_err-put_row-in-Ok-clause-refused c =

@@ -2,7 +2,9 @@ use Rattle.std.proofs.Common.{◌≡◌, ◌<◌, Some, length, refl, subst, sym
 use Rattle.std.specs.Prelude.{slice_get}
 use Rattle.std.proofs.lemmas.Option.{slice_get_read}
 use Rattle.std.proofs.lemmas.Int.{to_z-of_z}
+use Rattle.meaning.specs.Tables.{Listed}
 use Rattle.input_tables.specs.Edited.{Edited, row_into, columns_at}
+use Rattle.input_tables.proofs.Notes.{noted_then, own_columns, no_more_set}
 use Rattle.input_tables.proofs.Numbered.{set_at, columns_at-there}
 use Rattle.input_tables.proofs.tables.Tables.put_row.Goals as goal
 
@@ -21,3 +23,27 @@ returns-clause-tables c =
     slice_get_read c.self.inside.listed.items _ c.args.number _ refl within c.index_mut-table.ensures.value in
     rw (← c.self.view_is) (c.count_edit.ensures.tables ∙ set_at (row_into c.args.row c.args.values.now) c.self.inside.listed.items c.args.number c.index_mut-table.result.now c.put.new.self there
     (rw (to_z-of_z w64 _ c.ranges.row) at c.in_ok-put.ensures.put))
+
+pub note-requires : goal.note-requires
+note-requires c =
+    let ts = c.self.inside.listed.items in
+    let within : c.args.number < length ts = subst (λ (e : Edited). c.args.number < length e.tables) (sym c.self.view_is) c.requires.within in
+    record { room = own_columns ts c.args.number c.self.inside.next.room c.index.result.now (slice_get_read ts _ c.args.number _ refl within c.index.ensures) c.self.invariant.1 }
+
+pub invariant_of-self-2 : goal.invariant_of-self-2
+invariant_of-self-2 c =
+    let ts = c.self.inside.listed.items in
+    let within : c.args.number < length ts = subst (λ (e : Edited). c.args.number < length e.tables) (sym c.self.view_is) c.requires.within in
+    let there : slice_get ts c.args.number ≡ Some c.index_mut-table.result.now = slice_get_read ts _ c.args.number _ refl within c.index_mut-table.ensures.value in
+    let columns = ap (λ (t : Listed). t.columns) c.in_ok-put.ensures.put in (
+      rw (c.swap.ensures.x_after, c.note.ensures.room) (no_more_set ts c.args.number c.self.inside.next.room c.index_mut-table.result.now c.put.new.self there columns c.self.invariant.1),
+      rw c.swap.ensures.y_after (no_more_set ts c.args.number c.self.inside.before.room c.index_mut-table.result.now c.put.new.self there columns c.self.invariant.0),
+    )
+
+pub returns-clause-noted : goal.returns-clause-noted
+returns-clause-noted c =
+    let ts = c.self.inside.listed.items in
+    let within : c.args.number < length ts = subst (λ (e : Edited). c.args.number < length e.tables) (sym c.self.view_is) c.requires.within in
+    rw (← c.self.view_is) (noted_then ts c.args.number c.index.result.now _ c.args.row c.note.new.self.was c.count_edit.new.self.was (to_z-of_z w64 _ c.ranges.row)
+    (slice_get_read ts _ c.args.number _ refl within c.index.ensures) c.note.ensures.table c.note.ensures.row c.note.ensures.values c.note.ensures.limit c.note.ensures.sums c.note.ensures.wide
+    (c.count_edit.ensures.was ∙ ap (λ b. b.was) c.swap.ensures.x_after))
