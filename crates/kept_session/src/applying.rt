@@ -1,19 +1,13 @@
 // Edits of a session, one kind after another.
-ghost use Rattle.std.specs.Prelude.{◌≡◌, ◌⊎◌, ◌<◌, [], Ok, length, map, IfErr, IfNone, IfSome, OnOk, OnErr};
-ghost use Rattle.meaning.specs.Tables.{index_of};
+ghost use Rattle.std.specs.Prelude.{◌≡◌, Ok, map, IfErr, OnOk, OnErr};
 ghost use Rattle.meaning.specs.Edits.{Put, Delete, Define, after_put, after_delete, after_define};
 ghost use Rattle.checked_defines.specs.Readers.{reads_text, checks_rules};
-ghost use Rattle.input_tables.specs.Edited.{names_of};
 ghost use Rattle.record_theory.specs.Record.{as_made};
-ghost use Rattle.record_index.specs.Befores.{HasRoomFor};
-ghost use Rattle.record_index.specs.Indexed.{IsNoted};
 ghost use Rattle.kept_session.specs.Sessions.{standing_of};
 ghost use Rattle.kept_session.specs.Applied.{IsApplyCause};
 
 use crate::refusal::{ApplyError, undefined, unput};
 use crate::session::Session;
-use input_tables::{RowError, Tables};
-use record_index::indexed::IndexedRecords;
 use session_edits::EditError;
 use std::alloc::Global;
 use view_pool::View;
@@ -36,17 +30,14 @@ impl<V: View> Session<V> {
             ≡ record self.old { tables = self.new.tables; records = self.new.records } }
         ensures records { map as_made self.new.records ≡ map as_made self.old.records }
     {
-        // A row takes its memory where its table's rows do.
-        let _ = alloc;
-        match note_before(&mut self.records, &self.tables, table, row) {
-            None => Err(ApplyError::Refused(EditError::Row(RowError::UnknownTable))),
-            Some(number) => match self.tables.put_at(number, row, values) {
-                Ok(()) => {
-                    self.records.row_changed(&self.tables, number, row);
-                    Ok(())
-                }
-                Err(error) => Err(unput(error)),
-            },
+        // What edits are found by may take memory, so it is made before anything has changed.
+        self.records.cover();
+        match self.tables.put(alloc, table, row, values) {
+            Ok(number) => {
+                self.records.row_changed(&self.tables, number, row);
+                Ok(())
+            }
+            Err(error) => Err(unput(error)),
         }
     }
 
@@ -61,15 +52,13 @@ impl<V: View> Session<V> {
             ≡ record self.old { tables = self.new.tables; records = self.new.records } }
         ensures records { map as_made self.new.records ≡ map as_made self.old.records }
     {
-        match note_before(&mut self.records, &self.tables, table, row) {
-            None => Err(ApplyError::Refused(EditError::Row(RowError::UnknownTable))),
-            Some(number) => match self.tables.delete_at(number, row) {
-                Ok(()) => {
-                    self.records.row_changed(&self.tables, number, row);
-                    Ok(())
-                }
-                Err(error) => Err(ApplyError::Refused(EditError::Row(error))),
-            },
+        self.records.cover();
+        match self.tables.delete(table, row) {
+            Ok(number) => {
+                self.records.row_changed(&self.tables, number, row);
+                Ok(())
+            }
+            Err(error) => Err(ApplyError::Refused(EditError::Row(error))),
         }
     }
 
@@ -93,29 +82,6 @@ impl<V: View> Session<V> {
                 Ok(())
             }
             Err(error) => Err(undefined(error)),
-        }
-    }
-}
-
-// The number of the table of a name, of which the records have noted a row as it is before an edit.
-fn note_before(records: &mut IndexedRecords, tables: &Tables, name: &str, row: i64) -> Option<usize>
-    requires room { (records.old.records ≡ []) ⊎ HasRoomFor tables.now.tables records.old.room }
-    ensures found { IfSome result (λ number. number
-        ≡ index_of (names_of tables.now.tables) name.now) }
-    ensures within { IfSome result (λ number. number < length tables.now.tables) }
-    ensures absent { IfNone result (index_of (names_of tables.now.tables) name.now
-        ≡ length tables.now.tables) }
-    ensures noted { IfSome result (λ number. (records.new.records ≡ [])
-        ⊎ IsNoted tables.now.tables number row records.new.was) }
-    ensures same { records.new ≡ record records.old { was = records.new.was } }
-{
-    match tables.table(name) {
-        None => None,
-        Some(number) => {
-            // What edits are found by may take memory, so it is made before anything has changed.
-            records.cover();
-            records.row_before(tables, number, row);
-            Some(number)
         }
     }
 }

@@ -8,7 +8,8 @@ use Rattle.std.proofs.lemmas.List.Folds.{list_any-append}
 use Rattle.meaning.specs.Every.{every}
 use Rattle.meaning.specs.Records.{same_number, same_bool}
 use Rattle.meaning.specs.Tables.{Tables, row_of, at_column, is_there}
-use Rattle.input_tables.specs.Edited.{rows_at, limit_at, sum_at}
+use Rattle.input_tables.specs.Befores.{PlainBefore, total_at}
+use Rattle.input_tables.specs.Edited.{IsBefore, rows_at, limit_at, sum_at}
 use Rattle.evaluation.specs.declared.note.Note.{Note}
 use Rattle.evaluation.specs.declared.note.Note.TheVariants.{Cell, Has, Limit, Sum}
 use Rattle.record_theory.specs.Same.{same_flag, same_note}
@@ -16,7 +17,7 @@ use Rattle.record_theory.specs.Validity.{note_agrees}
 use Rattle.record_theory.specs.InStep.{rests_on, IsSameBut, is_apart}
 use Rattle.record_theory.specs.Counts.{is_among}
 use Rattle.record_theory.proofs.Members.{left_is, right_is}
-use Rattle.record_index.specs.Befores.{PlainBefore, IsBefore, total_at, cells_only, row_only, presence_only, limit_only, sums_only, held_only}
+use Rattle.record_index.specs.Befores.{cells_only, row_only, presence_only, limit_only, sums_only, held_only}
 
 -- ---- tests
 

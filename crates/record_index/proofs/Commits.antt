@@ -1,17 +1,16 @@
 -- Records that others are put in: what was told of their procedures, and the room for a row.
 use Rattle.std.proofs.Common.{◌≡◌, inl, inr, ℕ, zero, suc, ◌≤◌, ◌<◌, Bool, true, false, true≢false, cond, List, [], ◌∷◌, length, Option, Some, None, refl, sym, ap, ◌∙◌, subst, arith}
 use Rattle.std.specs.Prelude.{nat_lt, take, slice_get, IfSome, IfNone}
-use Rattle.std.proofs.lemmas.Bool.{ltb-true, lt-ltb, and_from, cases_lt}
+use Rattle.std.proofs.lemmas.Bool.{ltb-true, lt-ltb, and_from}
 use Rattle.std.proofs.lemmas.List.{take_all, length-take}
 use Rattle.meaning.specs.Tree.{Name}
 use Rattle.meaning.specs.Every.{every}
 use Rattle.meaning.specs.Tables.{Tables}
-use Rattle.input_tables.specs.Edited.{columns_at}
 use Rattle.record_theory.specs.Record.{PlainRecord, same_instance}
 use Rattle.record_theory.specs.Commits.{put_record, put_records}
 use Rattle.record_theory.specs.Validity.{is_revision, has_revision}
 use Rattle.record_theory.proofs.Members.{left_is, right_is, every_weaker}
-use Rattle.record_index.specs.Befores.{PlainNoted, HasRoomFor}
+use Rattle.record_index.specs.Befores.{PlainChanges, HasRoomFor}
 use Rattle.record_index.specs.Indexed.{is_within, AreTold, are_current, EnteredNow}
 
 -- ---- a test of records that all pass, and those that are put in
@@ -83,20 +82,7 @@ all_told revisions before told None is still all some = still ∙ all
 all_told revisions before told (Some t) is still all some = is ∙ some
 
 -- there is room, whether it was there before or is made now
-pub room_made : (tables : Tables) (before now : PlainNoted) (made : Option PlainNoted) → IfSome made (λ b. now ≡ b) → IfNone made (now ≡ before) → IfNone made (HasRoomFor tables before.room)
+pub room_made : (tables : Tables) (before now : PlainChanges) (made : Option PlainChanges) → IfSome made (λ b. now ≡ b) → IfNone made (now ≡ before) → IfNone made (HasRoomFor tables before.room)
     → IfSome made (λ b. HasRoomFor tables b.room) → HasRoomFor tables now.room
-room_made tables before now None is still all some = subst (λ (b : PlainNoted). HasRoomFor tables b.room) (sym still) all
-room_made tables before now (Some b) is still all some = subst (λ (b : PlainNoted). HasRoomFor tables b.room) (sym is) some
-
--- beyond the tables that there are a table has no columns
-pub widest_is : (tables : Tables) (count most : ℕ) → length tables ≤ count → ((t : ℕ) → t < count → length (columns_at tables t) ≤ most) → (t : ℕ) → length (columns_at tables t) ≤ most
-widest_is tables count most l h t =
-    elim (cases_lt t count) as (λ _. length (columns_at tables t) ≤ most) [
-      | inl within ↦ h t within
-      | inr beyond ↦ (let none : length (columns_at tables t) ≡ 0 = no_columns tables t (omega (arith, l, beyond)) in omega (arith, none))
-    ]
-  where
-    no_columns : (ts : Tables) (n : ℕ) → length ts ≤ n → length (columns_at ts n) ≡ 0
-    no_columns [] n m = refl
-    no_columns (x ∷ xs) zero m = absurd (omega (arith, m))
-    no_columns (x ∷ xs) (suc n) m = no_columns xs n (omega (arith, m))
+room_made tables before now None is still all some = subst (λ (b : PlainChanges). HasRoomFor tables b.room) (sym still) all
+room_made tables before now (Some b) is still all some = subst (λ (b : PlainChanges). HasRoomFor tables b.room) (sym is) some

@@ -5,6 +5,8 @@ use Rattle.std.proofs.lemmas.Bool.{and_from}
 use Rattle.meaning.specs.Tree.{Name}
 use Rattle.meaning.specs.Every.{every}
 use Rattle.meaning.specs.Tables.{Tables}
+use Rattle.input_tables.specs.Befores.{PlainBefore}
+use Rattle.input_tables.specs.Edited.{IsBefore, IsNoted}
 use Rattle.evaluation.specs.declared.note.Note.{Note}
 use Rattle.record_theory.specs.Record.{PlainRecord, as_made}
 use Rattle.record_theory.specs.Counts.{is_among, has_lapsed}
@@ -15,8 +17,8 @@ use Rattle.record_theory.specs.Validity.{note_agrees}
 use Rattle.rerun_records.specs.Line.{AreBefore}
 use Rattle.record_theory.proofs.Members.{left_is, right_is, both, every_append}
 use Rattle.record_theory.proofs.NumbersThen.{note_itself}
-use Rattle.record_index.specs.Befores.{PlainBefore, IsBefore, held_only, now_of, sums_from, HasRoomFor}
-use Rattle.record_index.specs.Indexed.{PlainIndexed, IsIndexed, IsNoted, HaveSameColumns, AreTold}
+use Rattle.record_index.specs.Befores.{held_only, now_of, sums_from, HasRoomFor}
+use Rattle.record_index.specs.Indexed.{PlainIndexed, IsIndexed, HaveSameColumns, AreTold}
 use Rattle.record_index.proofs.Befores.{held_is, held_distinct, held_rests, same_but_back}
 use Rattle.record_index.proofs.NumbersThen.{in_step_then}
 use Rattle.record_index.proofs.RowSums.{length_sums}
@@ -78,23 +80,23 @@ still_room before now old new room e same (inl none) = inl (none_counted new (e 
 still_room before now old new room e same (inr has) = inr (λ t. subst (λ k. k < room) (sym (same t)) (has t))
 
 pub indexed_then : (revisions : List (Name × ℕ)) (before now : Tables) (table : ℕ) (row : ℤ) (old : PlainIndexed) (records : List PlainRecord) (was : PlainBefore) (room : ℕ) (lost won : List Note)
-    → IsNoted before table row old.was → IsSameBut table row before now → HaveSameColumns before now → IsIndexed revisions before old → IsBefore now (now_of now old.was)
-    → lost ≡ held_only old.was (now_of now old.was) → won ≡ held_only (now_of now old.was) old.was
+    → IsNoted before table row was → IsSameBut table row before now → HaveSameColumns before now → IsIndexed revisions before old → IsBefore now (now_of now was)
+    → lost ≡ held_only was (now_of now was) → won ≡ held_only (now_of now was) was
     → ((b : Tables) → IsInStep b old.records → AreBefore b lost won → records ≡ map (told_by lost won) old.records) → map as_made records ≡ map as_made old.records → room ≡ old.room
-    → IsIndexed revisions now (record { records = records; told = old.told; was = was; room = room })
+    → IsIndexed revisions now (record { records = records; told = old.told; room = room })
 indexed_then revisions before now table row old records was room lost won noted same columns indexed is lost_is won_is told_is same_records same_room =
-    let here : IsSameBut old.was.table old.was.row before now =
-    subst (λ t. IsSameBut t old.was.row before now) (sym noted.table_is) (subst (λ r. IsSameBut table r before now) (sym noted.row_is) same) in
-    let right : IsInStep now (map (told_by (held_only old.was (now_of now old.was)) (held_only (now_of now old.was) old.was)) old.records) =
-    right_now before now old.was old.records noted.before is here indexed.in_step in
+    let here : IsSameBut was.table was.row before now =
+    subst (λ t. IsSameBut t was.row before now) (sym noted.table_is) (subst (λ r. IsSameBut table r before now) (sym noted.row_is) same) in
+    let right : IsInStep now (map (told_by (held_only was (now_of now was)) (held_only (now_of now was) was)) old.records) =
+    right_now before now was old.records noted.before is here indexed.in_step in
     let there : AreBefore before lost won =
     subst (λ (xs : List Note). AreBefore before xs won) (sym lost_is)
-    (subst (AreBefore before (held_only old.was (now_of now old.was))) (sym won_is) (before_edit before now old.was noted.before is here)) in
+    (subst (AreBefore before (held_only was (now_of now was))) (sym won_is) (before_edit before now was noted.before is here)) in
     record {
       in_step =
           subst (IsInStep now) (sym (told_is before indexed.in_step there))
           (subst (λ (xs : List Note). IsInStep now (map (told_by xs won) old.records)) (sym lost_is)
-          (subst (λ (xs : List Note). IsInStep now (map (told_by (held_only old.was (now_of now old.was)) xs) old.records)) (sym won_is) right));
+          (subst (λ (xs : List Note). IsInStep now (map (told_by (held_only was (now_of now was)) xs) old.records)) (sym won_is) right));
       told = subst (AreTold revisions old.told) (sym same_records) indexed.told;
       room = subst (λ (n : ℕ). (records ≡ []) ⊎ HasRoomFor now n) (sym same_room) (still_room before now old.records records old.room same_records columns indexed.room);
     }

@@ -6,17 +6,15 @@ use Rattle.std.specs.Ordering.{int_eq}
 use Rattle.std.proofs.lemmas.Bool.Decides.{leb_tells}
 use Rattle.meaning.specs.Records.{same_number}
 use Rattle.meaning.specs.Tables.{Tables, row_of, at_column, amount_in, column_total}
-use Rattle.input_tables.specs.Edited.{rows_at, columns_at, limit_at, sum_at}
+use Rattle.input_tables.specs.Befores.{total_at}
+use Rattle.input_tables.specs.Edited.{IsBefore, rows_at, columns_at, sum_at}
 use Rattle.input_tables.specs.Rows.{Row, AreWide}
+use Rattle.input_tables.proofs.Notes.{row_wide}
 use Rattle.evaluation.specs.declared.note.Note.{Note}
 use Rattle.evaluation.specs.declared.note.Note.TheVariants.{Cell, Sum}
-use Rattle.record_index.specs.Befores.{IsBefore, before_of, sums_from, total_at, cells_only, row_only, sums_only}
+use Rattle.record_index.specs.Befores.{before_of, sums_from, cells_only, row_only, sums_only}
 
 -- ---- sums of columns one after another
-
-pub sums_more : (tables : Tables) (t d k : ℕ) → sums_from tables t d (suc k) ≡ sums_from tables t d k ++ sum_at tables t (d + k) ∷ []
-sums_more tables t d zero = ap (λ c. sum_at tables t c ∷ []) (omega arith)
-sums_more tables t d (suc k) = ap (λ vs. sum_at tables t d ∷ vs) (sums_more tables t (suc d) k ∙ ap (λ c. sums_from tables t (suc d) k ++ sum_at tables t c ∷ []) (omega arith))
 
 pub length_sums : (tables : Tables) (t d k : ℕ) → length (sums_from tables t d k) ≡ k
 length_sums tables t d zero = refl
@@ -68,30 +66,6 @@ before_is tables t row w wide e = record {
   wide = length_sums tables t 0 w ∙ e;
 }
 
--- so is what was put together of them
-pub noted_is : (tables : Tables) (t : ℕ) (row : ℤ) (w : ℕ) (values : Option (List ℤ)) (limit : ℤ) (sums : List ℤ) → AreWide w (rows_at tables t) → w ≡ length (columns_at tables t)
-    → values ≡ row_of (rows_at tables t) row → limit ≡ limit_at tables t → sums ≡ sums_from tables t 0 w
-    → IsBefore tables (record { table = t; row = row; values = values; limit = limit; sums = sums })
-noted_is tables t row w values limit sums wide e values_are limit_is sums_are = record {
-  values_are = sym values_are;
-  limit_is = sym limit_is;
-  sums_are = λ c. sums_full tables t w wide c ∙ ap (λ vs. total_at vs c) (sym sums_are);
-  wide = ap length sums_are ∙ length_sums tables t 0 w ∙ e;
-}
-
--- a row that is there has as many values
-row_wide : (w : ℕ) (rows : List Row) (r : ℤ) (vs : List ℤ) → AreWide w rows → row_of rows r ≡ Some vs → length vs ≡ w
-row_wide w [] r vs wide e = absurd cc
-row_wide w ((m, us) ∷ rows) r vs wide e = by (int_eq m r) (row_wide w rows r vs wide.1) e
-  where
-    by : (b : Bool) → (row_of rows r ≡ Some vs → length vs ≡ w) → cond b (Some us) (row_of rows r) ≡ Some vs → length vs ≡ w
-    by true behind f = (let same : us ≡ vs = cc in sym (ap length same) ∙ wide.0)
-    by false behind f = behind f
-
-pub has_room : (w n : ℕ) (rows : List Row) (r : ℤ) (o : Option (Bor (List ℤ))) → AreWide w rows → w ≤ n → option_map (λ vs. vs.now) o ≡ row_of rows r → IfSome o (λ vs. length vs.now ≤ n)
-has_room w n rows r None wide l e = tt
-has_room w n rows r (Some vs) wide l e = (let so : length vs.now ≡ w = row_wide w rows r vs.now wide (sym e) in omega (arith, l, so))
-
 -- ---- how many cells there are
 
 few_cond : (s : Bool) (x : Note) (xs : List Note) (n : ℕ) → length xs ≤ n → length (cond s xs (x ∷ xs)) ≤ suc n
@@ -106,13 +80,10 @@ few_of_row : (t : ℕ) (row : ℤ) (values other : Option (List ℤ)) (n : ℕ) 
 few_of_row t row None other n l = omega arith
 few_of_row t row (Some vs) other n l = (let few : length (cells_only t row 0 vs other) ≤ length vs = few_cells t row 0 vs other in omega (arith, few, l))
 
-pub few_there : (t : ℕ) (row : ℤ) (there : Bool) (vs : List ℤ) (values other : Option (List ℤ)) (notes : List Note) (n : ℕ) → notes ≡ row_only t row values other
-    → values ≡ cond there (Some vs) None → length vs ≤ n → length notes ≤ n
-few_there t row there vs values other notes n put is l = rw (put, is) (few_of_row t row (cond there (Some vs) None) other n (at_most there))
-  where
-    at_most : (b : Bool) → IfSome (cond b (Some vs) None) (λ us. length us ≤ n)
-    at_most true = l
-    at_most false = tt
+pub few_was : (t : ℕ) (row : ℤ) (o : Option (Bor (List ℤ))) (other : Option (List ℤ)) (notes : List Note) (n : ℕ) → notes ≡ row_only t row (option_map (λ vs. vs.now) o) other
+    → IfSome o (λ vs. length vs.now ≤ n) → length notes ≤ n
+few_was t row None other notes n put l = rw put (few_of_row t row None other n tt)
+few_was t row (Some vs) other notes n put l = rw put (few_of_row t row (Some vs.now) other n l)
 
 pub few_now : (t : ℕ) (row : ℤ) (w : ℕ) (rows : List Row) (r : ℤ) (values other : Option (List ℤ)) (notes : List Note) → notes ≡ row_only t row values other
     → values ≡ row_of rows r → AreWide w rows → length notes ≤ w
@@ -156,10 +127,6 @@ sums_only_more t d v o vs others before after whole l is other e h =
     ∙ ap (λ u. before ++ cond (int_eq v u) (sums_only t (suc d) (drop (suc d) vs) others) (Sum t d v ∷ sums_only t (suc d) (drop (suc d) vs) others)) other
     ∙ ap (λ us. before ++ sums_only t d us others) (ap (λ u. u ∷ drop (suc d) vs) is ∙ sym (drop_first vs d l))
     ∙ h
-
-pub sums_put : (tables : Tables) (t k : ℕ) (v : ℤ) (before after : List ℤ) → before ≡ sums_from tables t 0 k → v ≡ sum_at tables t k → after ≡ before ++ v ∷ [] → after ≡ sums_from tables t 0 (k + 1)
-sums_put tables t k v before after is at e =
-    e ∙ ap₂ (λ vs w. vs ++ w ∷ []) is (at ∙ ap (sum_at tables t) (omega arith)) ∙ sym (sums_more tables t 0 k) ∙ ap (sums_from tables t 0) (sym (add-one k))
 
 -- behind the last column nothing is left
 pub nothing_left : (tables : Tables) (t n c : ℕ) (vs : List ℤ) (before whole : List Note) → n ≤ c → before ++ sums_only t c (drop c (sums_from tables t 0 n)) vs ≡ whole → before ≡ whole

@@ -1,33 +1,13 @@
--- A row and its table's totals at one time, and what was read of them that holds then and not at another.
-use Rattle.std.specs.Prelude.{◌≡◌, ◌<◌, ℕ, zero, suc, ℤ, pos, Bool, cond, List, [], ◌∷◌, ◌++◌, length, Option, Some, None}
+-- What was read of a row and of its table's totals that holds at one time and not at another.
+use Rattle.std.specs.Prelude.{◌<◌, ℕ, zero, suc, ℤ, Bool, cond, List, [], ◌∷◌, ◌++◌, length, Option, Some, None}
 use Rattle.std.specs.Ordering.{int_eq}
 use Rattle.meaning.specs.Tables.{Tables, row_of, at_column, is_there}
 use Rattle.meaning.specs.Records.{same_number}
+use Rattle.input_tables.specs.Befores.{PlainBefore, total_at}
 use Rattle.input_tables.specs.Edited.{rows_at, columns_at, limit_at, sum_at}
 use Rattle.evaluation.specs.declared.note.Note.{Note}
 use Rattle.evaluation.specs.declared.note.Note.TheVariants.{Cell, Has, Limit, Sum}
 use Rattle.record_theory.specs.Same.{same_flag}
-
--- a row of a table, given by the table's number: its values where it is there, the table's limit, and the sums of its columns
-pub record PlainBefore : Type 0 where
-  pub table : ℕ
-  pub row : ℤ
-  pub values : Option (List ℤ)
-  pub limit : ℤ
-  pub sums : List ℤ
-
--- the sum of a column, 0 where there is none
-abbrev pub total_at : List ℤ → ℕ → ℤ
-total_at [] c = pos 0
-total_at (v ∷ vs) zero = v
-total_at (v ∷ vs) (suc c) = total_at vs c
-
--- so the tables have it, with a sum for each column
-pub record IsBefore (tables : Tables) (b : PlainBefore) : Type 0 where
-  pub values_are : row_of (rows_at tables b.table) b.row ≡ b.values
-  pub limit_is : limit_at tables b.table ≡ b.limit
-  pub sums_are : (c : ℕ) → sum_at tables b.table c ≡ total_at b.sums c
-  pub wide : length b.sums ≡ length (columns_at tables b.table)
 
 -- the sums of so many columns from one on
 abbrev pub sums_from : Tables → ℕ → ℕ → ℕ → List ℤ
@@ -73,16 +53,11 @@ held_only a b =
 
 -- ---- kept with room
 
--- a row as it was, room for rows of so many columns, and the readings of it that held then and not when it was compared last, and the other way
-pub record PlainNoted : Type 0 where
-  pub was : PlainBefore
+-- room for rows of fewer columns than that, and the readings of a row that held before an edit and not behind it, and the other way
+pub record PlainChanges : Type 0 where
   pub room : ℕ
   pub lost : List Note
   pub won : List Note
-
--- no row yet
-abbrev pub no_row : PlainBefore
-no_row = record { table = 0; row = pos 0; values = None; limit = pos 0; sums = [] }
 
 -- there is room for the rows of each table
 abbrev pub HasRoomFor : Tables → ℕ → Type 0

@@ -1,4 +1,4 @@
--- Records with what was told of the procedures and of a row, and what they are in step with.
+-- Records with what was told of the procedures, and what they are in step with.
 use Rattle.std.specs.Prelude.{◌≡◌, ◌⊎◌, ◌<◌, ℕ, ℤ, nat_lt, Bool, true, ◌&&◌, List, [], Option, Some, None, map, length, take, is_some}
 use Rattle.std.specs.List.{find}
 use Rattle.meaning.specs.Tree.{Name}
@@ -7,6 +7,7 @@ use Rattle.meaning.specs.Every.{every}
 use Rattle.meaning.specs.Tables.{Tables}
 use Rattle.meaning.specs.Records.{Key}
 use Rattle.linked_program.specs.Checked.{PlainChecked, names_in}
+use Rattle.input_tables.specs.Befores.{PlainBefore}
 use Rattle.input_tables.specs.Edited.{columns_at}
 use Rattle.record_theory.specs.Record.{PlainRecord, is_of, as_made}
 use Rattle.record_theory.specs.InStep.{IsInStep}
@@ -14,19 +15,18 @@ use Rattle.record_numbers.specs.Stale.{most_number}
 use Rattle.record_theory.specs.Named.{number_of}
 use Rattle.record_theory.specs.Validity.{has_revision}
 use Rattle.record_index.specs.Counts.{stale_count}
-use Rattle.record_index.specs.Befores.{PlainBefore, IsBefore, HasRoomFor, no_row}
+use Rattle.record_index.specs.Befores.{HasRoomFor}
 
--- records, the procedures' names with their revision numbers as they were told last, the row that was noted last before an edit, and for
--- how many columns there is room there
+-- records, the procedures' names with their revision numbers as they were told last, and room for what is told of an edit of a row of
+-- fewer columns than that
 pub record PlainIndexed : Type 0 where
   pub records : List PlainRecord
   pub told : List (Name × ℕ)
-  pub was : PlainBefore
   pub room : ℕ
 
 -- no records
 abbrev pub nothing_indexed : PlainIndexed
-nothing_indexed = record { records = []; told = []; was = no_row; room = 0 }
+nothing_indexed = record { records = []; told = []; room = 0 }
 
 -- the record's procedure and those that it entered are among so many
 abbrev pub is_within : ℕ → PlainRecord → Bool
@@ -43,13 +43,7 @@ pub record IsIndexed (revisions : List (Name × ℕ)) (tables : Tables) (x : Pla
   pub told : AreTold revisions x.told (map as_made x.records)
   pub room : (x.records ≡ []) ⊎ HasRoomFor tables x.room
 
--- the row that was noted last is that one, as these tables have it
-pub record IsNoted (tables : Tables) (table : ℕ) (row : ℤ) (was : PlainBefore) : Type 0 where
-  pub table_is : was.table ≡ table
-  pub row_is : was.row ≡ row
-  pub before : IsBefore tables was
-
--- it is that one, of a table with as many columns
+-- what was noted is of that row, of a table with as many columns
 pub record IsBeside (tables : Tables) (table : ℕ) (row : ℤ) (was : PlainBefore) : Type 0 where
   pub table_is : was.table ≡ table
   pub row_is : was.row ≡ row

@@ -1,5 +1,5 @@
 //! Records with what was told of the program and of edits.
-ghost use Rattle.std.specs.Prelude.{◌≡◌, ◌⊎◌, ◌<◌, ◌≤◌, ◌+◌, [], ℕ, List, All, Some};
+ghost use Rattle.std.specs.Prelude.{◌≡◌, ◌⊎◌, ◌<◌, ◌+◌, [], ℕ, List, All, Some};
 ghost use Rattle.std.specs.Prelude.{map, length, take, slice_get, IfOk, IfSome, IfNone, OnOk, OnErr, option_copied};
 ghost use Rattle.linked_program.specs.Checked.{PlainChecked};
 ghost use Rattle.meaning.specs.Tables.{Tables as PlainTables};
@@ -11,12 +11,12 @@ ghost use Rattle.record_theory.specs.Record.{PlainRecord, as_made};
 ghost use Rattle.record_theory.specs.Commits.{put_records};
 ghost use Rattle.record_theory.specs.InStep.{ReadNow, IsSameBut};
 ghost use Rattle.record_theory.specs.Named.{looked_up, FindsNamed, CommitsNamed, HaveValues, IsInOrder};
-ghost use Rattle.input_tables.specs.Edited.{columns_at};
+ghost use Rattle.input_tables.specs.Edited.{IsNoted};
 ghost use Rattle.record_index.specs.Counts.{outdated_count};
 ghost use Rattle.record_index.specs.Befores.{HasRoomFor};
-ghost use Rattle.record_index.specs.Indexed.{nothing_indexed, IsIndexed, IsNoted, IsBeside, HaveSameColumns, IsLonger, EnteredNow, IsStale, record_for};
+ghost use Rattle.record_index.specs.Indexed.{nothing_indexed, IsIndexed, IsBeside, HaveSameColumns, IsLonger, EnteredNow, IsStale, record_for};
 
-use crate::before::Before;
+use crate::changes::Changes;
 use crate::told::Told;
 use gathered_records::gathering::gather;
 use input_tables::Tables;
@@ -27,14 +27,13 @@ use rerun_records::records::Records;
 use std::alloc::{AllocError, Global};
 use std::marker::Model;
 
-/// Records with what was told of the procedures, and a row as it was before its edit: so they are brought up to date with each edit, and
-/// to ask takes no look at the tables.
+/// Records with what was told of the procedures: they are brought up to date behind each edit, and to ask takes no look at the tables.
 #[derive(Drop)]
 pub struct IndexedRecords {
     records: Records,
     told: Told,
-    // The row that is edited next, or was last.
-    before: Before,
+    // What the edit of a row has changed that was told last.
+    changes: Changes,
 }
 
 impl Model for IndexedRecords {
@@ -45,8 +44,7 @@ impl Model for IndexedRecords {
     ghost view = { λ x. record {
       records = x.records;
       told = x.told;
-      was = x.before.was;
-      room = x.before.room;
+      room = x.changes.room;
     } };
 }
 
@@ -58,7 +56,7 @@ impl IndexedRecords {
         IndexedRecords {
             records: Records::new(alloc),
             told: Told::new(alloc),
-            before: Before::new(alloc),
+            changes: Changes::new(alloc),
         }
     }
 
@@ -126,10 +124,10 @@ impl IndexedRecords {
     {
         let alloc = *made.allocator();
         let told = told_for(alloc, &self.told, program)?;
-        let before = before_for(alloc, &self.before, tables)?;
+        let changes = changes_for(alloc, &self.changes, tables)?;
         self.records.commit(made, tables, program)?;
         learn(&mut self.told, told);
-        make_room(&mut self.before, before);
+        make_room(&mut self.changes, changes);
         Ok(())
     }
 
@@ -155,24 +153,13 @@ impl IndexedRecords {
         self.records.cover();
     }
 
-    /// Notes a row of the table of that number as it is before an edit. It takes no memory.
-    pub fn row_before(&mut self, tables: &Tables, table: usize, row: i64)
-        requires room { (self.old.records ≡ []) ⊎ HasRoomFor tables.now.tables self.old.room }
-        ensures noted { (self.old.records ≡ []) ⊎ IsNoted tables.now.tables table row self.new.was }
-        ensures same { self.new ≡ record self.old { was = self.new.was } }
-    {
-        if !self.records.is_empty() {
-            self.before.note(tables, table, row);
-        }
-    }
-
-    /// Brings the records' numbers up to date after a row of the table of that number was changed, which `row_before` has noted. It takes
-    /// no memory, and is never refused.
+    /// Brings the records' numbers up to date after a row of the table of that number was changed, by the last edit of these tables that was
+    /// accepted: they have noted what it was. It takes no memory, and is never refused.
     pub fn row_changed(&mut self, tables: &Tables, table: usize, row: i64)
         requires beside { (self.old.records ≡ [])
-            ⊎ (IsBeside tables.now.tables table row self.old.was × (length self.old.was.sums < self.old.room)) }
+            ⊎ (IsBeside tables.now.tables table row tables.now.was × (length tables.now.was.sums < self.old.room)) }
         ensures indexed { (revisions : List (Name × ℕ)) (before : PlainTables)
-            → ((self.old.records ≡ []) ⊎ IsNoted before table row self.old.was)
+            → ((self.old.records ≡ []) ⊎ IsNoted before table row tables.now.was)
             → IsSameBut table row before tables.now.tables → HaveSameColumns before tables.now.tables
             → IsIndexed revisions before self.old → IsIndexed revisions tables.now.tables self.new }
         ensures same { map as_made self.new.records ≡ map as_made self.old.records }
@@ -180,10 +167,10 @@ impl IndexedRecords {
         if self.records.is_empty() {
             return;
         }
-        self.before.compare(tables);
-        let change = self.before.change();
+        self.changes.compare(tables);
+        let change = tables.before().place();
         self.records
-            .tell(&change, self.before.lost(), self.before.won());
+            .tell(&change, self.changes.lost(), self.changes.won());
     }
 
     /// Brings what was told of the procedures up to date after some were defined: those that there were keep their places. It takes no
@@ -217,13 +204,13 @@ fn learn(told: &mut Told, made: Option<Told>)
     }
 }
 
-// Takes over the room to note rows of more columns, where that was made.
-fn make_room(before: &mut Before, made: Option<Before>)
-    ensures made { IfSome made (λ b. before.new ≡ b) }
-    ensures same { IfNone made (before.new ≡ before.old) }
+// Takes over the room for rows of more columns, where that was made.
+fn make_room(changes: &mut Changes, made: Option<Changes>)
+    ensures made { IfSome made (λ c. changes.new ≡ c) }
+    ensures same { IfNone made (changes.new ≡ changes.old) }
 {
     match made {
-        Some(made) => *before = made,
+        Some(made) => *changes = made,
         None => {}
     }
 }
@@ -240,25 +227,18 @@ fn told_for(alloc: Global, told: &Told, program: &Checked) -> Result<Option<Told
     Ok(Some(Told::of(alloc, program)?))
 }
 
-// Room to note a row of each table, where there isn't as much.
-fn before_for(alloc: Global, before: &Before, tables: &Tables) -> Result<Option<Before>, AllocError>
-    ensures room { IfOk result (λ made. IfNone made (HasRoomFor tables.now.tables before.now.room)) }
-    ensures made { IfOk result (λ made. IfSome made (λ b. HasRoomFor tables.now.tables b.room)) }
+// Room for what is told of a row of each table, where there isn't as much.
+fn changes_for(
+    alloc: Global,
+    changes: &Changes,
+    tables: &Tables,
+) -> Result<Option<Changes>, AllocError>
+    ensures room { IfOk result (λ made. IfNone made (HasRoomFor tables.now.tables changes.now.room)) }
+    ensures made { IfOk result (λ made. IfSome made (λ c. HasRoomFor tables.now.tables c.room)) }
 {
-    let columns = widest(tables);
-    if columns < before.room() {
+    let columns = tables.most_columns();
+    if columns < changes.room() {
         return Ok(None);
     }
-    Ok(Some(Before::with_room(alloc, columns)?))
-}
-
-// How many columns the widest table has.
-fn widest(tables: &Tables) -> usize
-    ensures most { (t : ℕ) → length (columns_at tables.now.tables t) ≤ result }
-{
-    let mut most = 0;
-    for table in 0..tables.count() {
-        most = most.max(tables.width(table));
-    }
-    most
+    Ok(Some(Changes::with_room(alloc, columns)?))
 }

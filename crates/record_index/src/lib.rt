@@ -1,6 +1,6 @@
 //! Records with the number of what each of them has read and entered that doesn't hold now.
 #![tactic(auto)]
 
-mod before;
+mod changes;
 pub mod indexed;
 mod told;

@@ -11,8 +11,7 @@ returns-clause-indexed c =
     let indexed : IsIndexed revisions tables (record {
       records = c.self.inside.records;
       told = c.self.inside.told;
-      was = c.self.inside.before.was;
-      room = c.self.inside.before.room;
+      room = c.self.inside.changes.room;
     }) = subst (IsIndexed revisions tables) (sym c.self.view_is) c.requires.indexed in
     record {
       in_step = c.in_ok-commit.ensures.in_step;
@@ -23,6 +22,6 @@ returns-clause-indexed c =
           c.requires.entered_now);
       room =
           inr
-          (room_made tables c.self.inside.before c.make_room.new.before c.in_ok-before.before c.make_room.ensures.made c.make_room.ensures.same c.in_ok-before.ensures.room
-          c.in_ok-before.ensures.made);
+          (room_made tables c.self.inside.changes c.make_room.new.changes c.in_ok-changes.changes c.make_room.ensures.made c.make_room.ensures.same c.in_ok-changes.ensures.room
+          c.in_ok-changes.ensures.made);
     }

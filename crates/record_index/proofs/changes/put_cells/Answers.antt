@@ -1,6 +1,6 @@
 use Rattle.std.proofs.Common.{rules, arith, ◌∙◌, pos, get_or, FitsSigned, w64, to_z-of_z}
 use Rattle.record_index.proofs.RowSums.{cells_more, get_total}
-use Rattle.record_index.proofs.before.put_cells.Goals as goal
+use Rattle.record_index.proofs.changes.put_cells.Goals as goal
 
 pub loop-column-preserved : goal.loop-column-preserved
 loop-column-preserved c =

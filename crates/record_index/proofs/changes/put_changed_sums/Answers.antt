@@ -1,7 +1,7 @@
 use Rattle.std.proofs.Common.{rules, arith, ◌≡◌, ◌<◌, ◌∙◌, pos, length, get_or, FitsSigned, w64, to_z-of_z}
 use Rattle.record_index.specs.Befores.{sums_from}
 use Rattle.record_index.proofs.RowSums.{sums_only_more, get_total, nothing_left, length_sums, total_is}
-use Rattle.record_index.proofs.before.put_changed_sums.Goals as goal
+use Rattle.record_index.proofs.changes.put_changed_sums.Goals as goal
 
 pub loop-column-preserved : goal.loop-column-preserved
 loop-column-preserved c =

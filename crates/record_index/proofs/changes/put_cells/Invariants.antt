@@ -1,6 +1,6 @@
 use Rattle.std.proofs.Common.{◌≡◌, ◌≤◌, ◌++◌, option_map, length, drop, vec_capacity}
 use Rattle.record_index.specs.Befores.{cells_only}
-use Rattle.record_index.proofs.before.put_cells.Given as goal
+use Rattle.record_index.proofs.changes.put_cells.Given as goal
 
 abbrev pub invariant-loop-column : goal.invariant-loop-column
 invariant-loop-column l = record {

@@ -1,6 +1,6 @@
 use Rattle.std.proofs.Common.{◌≡◌, ◌≤◌, ◌+◌, ◌++◌, length, drop, vec_capacity}
 use Rattle.record_index.specs.Befores.{sums_only, sums_from}
-use Rattle.record_index.proofs.before.put_changed_sums.Given as goal
+use Rattle.record_index.proofs.changes.put_changed_sums.Given as goal
 
 abbrev pub invariant-loop-column : goal.invariant-loop-column
 invariant-loop-column l = record {
