@@ -38,13 +38,18 @@ fn has_two_columns(tables: &Tables, table: usize, first: &str, second: &str) -> 
     columns.len() == 2 && is_text(columns.first(), first) && is_text(columns.last(), second)
 }
 
-/// Whether what the row of the last edit was has this first value, with this limit and first sum.
-fn was(before: &Before, value: Option<i64>, limit: i64, sum: i64) -> bool {
+/// Whether the row of the last edit is that one, and had this first value, this limit and this first sum.
+fn was(before: &Before, row: (usize, i64), value: Option<i64>, limit: i64, sum: i64) -> bool {
+    let place = before.place();
     let found = match before.values() {
         Some(values) => values.first().copied(),
         None => None,
     };
-    found == value && before.limit() == limit && before.sums().first().copied() == Some(sum)
+    place.0 == row.0
+        && place.1 == row.1
+        && found == value
+        && before.limit() == limit
+        && before.sums().first().copied() == Some(sum)
 }
 
 /// Whether the tables answer so.
@@ -59,7 +64,7 @@ fn is_answered(tables: &Tables, look: &Look) -> bool {
         Look::Sum(table, column, sum) => tables.sum(table, column) == sum,
         Look::Cell(table, row, column, value) => tables.cell(table, row, column) == value,
         Look::Before(table, row, value, limit, sum) => {
-            tables.before().place() == (table, row) && was(tables.before(), value, limit, sum)
+            was(tables.before(), (table, row), value, limit, sum)
         }
     }
 }
