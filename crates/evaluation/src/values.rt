@@ -277,9 +277,9 @@ pub fn without_reading(expression: &Expression, slots: &[Slot]) -> Option<i64>
     }
 }
 
-// An operator's value, where it has one.
+/// An operator's value, where it has one.
 #[inline(always)]
-pub(crate) fn joined(operator: Operator, left: i64, right: i64) -> Option<i64>
+pub fn joined(operator: Operator, left: i64, right: i64) -> Option<i64>
     ensures value { IfSome result (λ v. applied_to operator left right ≡ pure v) }
 {
     match apply(operator, left, right) {

@@ -1,7 +1,9 @@
 pub mod Least
 pub mod Tried
 pub mod Numbers
+pub mod Ones
 pub mod Pushes
+pub mod Shorts
 pub mod Named
 pub mod Quiet
 pub mod Fits

@@ -1,5 +1,7 @@
 -- The plain form of code, and that it is the linked form of a program.
-use Rattle.std.specs.Prelude.{◌≡◌, ℕ, zero, suc, Bool, false, List, [], ◌∷◌, Option, Some, None, map, slice_get, length}
+use Rattle.std.specs.Prelude.{◌≡◌, ℕ, zero, suc, Bool, false, List, [], ◌∷◌, Option, Some, None, All, IfSome, map, slice_get, length}
+use Rattle.monoid_laws.specs.declared.Kind.{Kind}
+use Rattle.monoid_laws.specs.Kinds.{arity}
 use Rattle.meaning.specs.Tree.{Body, Proc, Tree}
 use Rattle.meaning.specs.declared.tree.Block.{Block}
 use Rattle.meaning.specs.declared.tree.Operator.{Operator}
@@ -10,11 +12,13 @@ use Rattle.linked_program.specs.declared.code.Expression.TheVariants as e
 use Rattle.linked_program.specs.declared.code.RowCells.{RowCells}
 use Rattle.linked_program.specs.declared.code.Operation.{Operation}
 use Rattle.linked_program.specs.declared.code.Operation.TheVariants as o
+use Rattle.linked_program.specs.declared.code.ShortForm.{ShortForm}
+use Rattle.linked_program.specs.declared.code.ShortForm.TheVariants as short
 use Rattle.linked_program.specs.declared.code.Instruction.{Instruction}
 use Rattle.linked_program.specs.declared.code.CodeBlock.{CodeBlock}
 use Rattle.linked_program.specs.declared.code.Code.{Code}
 use Rattle.linked_program.specs.Linked.{Linked, constant, slot, cell_at, has_at, limit_at, sum_at, minus, joined, Act, binds, enters}
-use Rattle.linked_program.specs.Linked.{reads, syncs, updates, chooses, loops, gives, Acts, ends, steps, linked_body}
+use Rattle.linked_program.specs.Linked.{reads, syncs, updates, chooses, loops, gives, Acts, ends, steps, linked_body, kinds_of}
 
 -- an operator on two cells of one row
 abbrev pub on_row : Operator → RowCells → Linked
@@ -59,6 +63,51 @@ abbrev pub code_block : List CodeBlock → ℕ → ℕ → Acts
 code_block blocks zero n = ends
 code_block blocks (suc levels) n = acts_of (code_block blocks levels) (slice_get blocks n)
 
+-- ---- short forms
+
+-- what a statement of that short form does
+abbrev pub act_by : ShortForm → Option Act
+act_by short.Other = None
+act_by (short.UpdateSlot r x) = Some (updates r (slot x ∷ []))
+act_by (short.UpdateNumber r v) = Some (updates r (constant v ∷ []))
+act_by (short.UpdateSlots r x y) = Some (updates r (slot x ∷ slot y ∷ []))
+act_by (short.UpdateSlotAndNumber r x v) = Some (updates r (slot x ∷ constant v ∷ []))
+act_by (short.ReturnSlot x) = Some (gives (slot x))
+act_by (short.ReturnNumber v) = Some (gives (constant v))
+act_by (short.BindSlots n op x y) = Some (binds n (joined op (slot x) (slot y)))
+act_by (short.BindSlotAndNumber n op x v) = Some (binds n (joined op (slot x) (constant v)))
+act_by (short.BindNumberAndSlot n op v x) = Some (binds n (joined op (constant v) (slot x)))
+act_by (short.BindOnRow n op cells) = Some (binds n (on_row op cells))
+
+-- a reducer that there is takes so many numbers
+abbrev pub HasArity : ℕ → Option Kind → Type 0
+HasArity count None = ⊥
+HasArity count (Some kind) = count ≡ arity kind
+
+-- the reducer of a short form takes as many numbers as it has
+abbrev pub HasCount : List Kind → ShortForm → Type 0
+HasCount kinds (short.UpdateSlot r x) = HasArity 1 (slice_get kinds r)
+HasCount kinds (short.UpdateNumber r v) = HasArity 1 (slice_get kinds r)
+HasCount kinds (short.UpdateSlots r x y) = HasArity 2 (slice_get kinds r)
+HasCount kinds (short.UpdateSlotAndNumber r x v) = HasArity 2 (slice_get kinds r)
+HasCount kinds _ = Unit {0}
+
+-- what a short form says of what is done
+abbrev pub IsFormOf : List Kind → ShortForm → Act → Type 0
+IsFormOf kinds f a = IfSome (act_by f) (λ b. a ≡ b) × HasCount kinds f
+
+-- the short form of a statement says what that does
+abbrev pub HasShort : List Kind → Instruction → Type 0
+HasShort kinds i = (inner : ℕ → Acts) → IsFormOf kinds i.short (act inner i.operation)
+
+abbrev pub AreShort : List Kind → List Instruction → Type 0
+AreShort kinds is = All (HasShort kinds) is
+
+abbrev pub AreShortBlocks : List Kind → List CodeBlock → Type 0
+AreShortBlocks kinds bs = All (λ b. AreShort kinds b.instructions.items) bs
+
+-- ---- the code of a tree
+
 -- block by block
 abbrev pub AreBlocksOf : List Columned → Tree → List CodeBlock → List Block → Type 0
 AreBlocksOf ts t [] [] = Unit {0}
@@ -67,10 +116,11 @@ AreBlocksOf ts t (c ∷ cs) (b ∷ bs) =
     ≡ linked_body ts t (statements inner b.statements.items)) × AreBlocksOf ts t cs bs
 AreBlocksOf _ _ _ _ = ⊥
 
--- the code is that of the procedure: each number is that of the name
+-- the code is that of the procedure: each number is that of the name, and each short form says what its statement does
 pub record IsCodeOf (ts : List Columned) (t : Tree) (c : Code) (p : Proc) : Type 0 where
   pub memo : c.memo ≡ p.memo
   pub slots : c.slots ≡ length p.names
+  pub short : AreShortBlocks (kinds_of t) c.blocks.items
   pub body : code_block c.blocks.items (length c.blocks.items) 0 ≡ linked_body ts t p.body
 
 -- the codes are those of the procedures, in their order

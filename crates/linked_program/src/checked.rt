@@ -1,5 +1,5 @@
 //! The type of a checked program.
-ghost use Rattle.std.specs.Prelude.{◌≡◌, ◌+◌, ◌<◌, ◌^◌, [], map, All, option_copied, option_map, slice_get, is_some, IfSome, OnSome};
+ghost use Rattle.std.specs.Prelude.{◌≡◌, ◌+◌, ◌<◌, ◌^◌, ℕ, [], map, All, option_copied, option_map, slice_get, is_some, IfSome, OnSome};
 ghost use Rattle.meaning.specs.Edits.{revision_of};
 ghost use Rattle.meaning.specs.Fitting.{ProgramFits};
 ghost use Rattle.meaning.specs.Statements.{procedure_of, beginning};
@@ -10,7 +10,7 @@ ghost use Rattle.linked_program.specs.Declarations.{violations};
 ghost use Rattle.linked_program.specs.Procedures.{procedures};
 ghost use Rattle.linked_program.specs.Initials.{plain_initial, initials_of, AreUpdatesBy};
 ghost use Rattle.linked_program.specs.Linked.{kinds_of, main_number, procedure_number};
-ghost use Rattle.linked_program.specs.CodeView.{AreCodesOf, memo_of, slots_of, instruction_at};
+ghost use Rattle.linked_program.specs.CodeView.{AreCodesOf, HasShort, memo_of, slots_of, instruction_at};
 ghost use Rattle.linked_program.specs.Checked.{IsChecked, numbers_in, names_in, number_in};
 
 use crate::code::{Code, Instruction};
@@ -270,6 +270,14 @@ impl Checked {
         ensures kinds { self.now.kinds ≡ kinds_of (tree self.now.program) }
         ensures initials { self.now.initials ≡ initials_of (tree self.now.program) }
         ensures main { self.now.main ≡ main_number (tree self.now.program) }
+    {
+        let _ = &self.program;
+    }
+
+    /// What the type keeps: the short form of a statement says what that does.
+    pub fn short(&self)
+        ensures short { (procedure block index : ℕ)
+            → IfSome (instruction_at self.now.codes procedure block index) (HasShort self.now.kinds) }
     {
         let _ = &self.program;
     }

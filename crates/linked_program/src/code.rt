@@ -43,10 +43,28 @@ pub enum Operation {
     Return(Expression),
 }
 
-/// A statement, with its number in the procedure.
+/// A short form of a statement that is done often, over slots and numbers alone: nothing else has to be looked up for it, and an update
+/// has as many numbers as its reducer takes. Linking makes one wherever it can.
+#[derive(Clone, Copy)]
+pub enum ShortForm {
+    Other,
+    UpdateSlot(usize, usize),
+    UpdateNumber(usize, i64),
+    UpdateSlots(usize, usize, usize),
+    UpdateSlotAndNumber(usize, usize, i64),
+    ReturnSlot(usize),
+    ReturnNumber(i64),
+    BindSlots(usize, Operator, usize, usize),
+    BindSlotAndNumber(usize, Operator, usize, i64),
+    BindNumberAndSlot(usize, Operator, i64, usize),
+    BindOnRow(usize, Operator, RowCells),
+}
+
+/// A statement, with its number in the procedure, and its short form.
 #[derive(Drop)]
 pub struct Instruction {
     pub number: u32,
+    pub short: ShortForm,
     pub operation: Operation,
 }
 

@@ -8,5 +8,6 @@ pub mod initial;
 pub mod knowledge;
 pub mod laws;
 pub mod linking;
+mod shortening;
 pub mod tables;
 pub mod violation;

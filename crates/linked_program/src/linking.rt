@@ -9,9 +9,10 @@ ghost use Rattle.linked_program.specs.Procedures.{procedures};
 ghost use Rattle.linked_program.specs.Linked.{procedure_number as number_of_procedure, reducer_number as number_of_reducer};
 ghost use Rattle.linked_program.specs.Linked.{table_number as number_of_table, column_number as number_of_column, linked_term, linked_deed};
 ghost use Rattle.linked_program.specs.Linked.{linked_body, Acts, loops, kinds_of, constant, slot as slot_of, cell_at, joined as joined_by};
-ghost use Rattle.linked_program.specs.CodeView.{expression as plain, act, acts, IsCodeOf, AreBlocksOf, AreCodesOf};
+ghost use Rattle.linked_program.specs.CodeView.{expression as plain, act, acts, IsCodeOf, AreBlocksOf, AreCodesOf, AreShort, AreShortBlocks};
 
 use crate::code::{Code, CodeBlock, Expression, Instruction, Operation, RowCells};
+use crate::shortening::short_form;
 use crate::tables::TableNames;
 use meaning::tree::{Action, Block, Declaration, Expr, Operator, Procedure, Statement};
 use monoid_laws::Kind;
@@ -339,15 +340,18 @@ fn operation(
     }
 }
 
+// The statements of a block, over reducers of these kinds.
 fn instructions(
     alloc: Global,
     declarations: &[Declaration],
     tables: &[TableNames],
+    kinds: &[Kind],
     statements: &[Statement],
 ) -> Result<Vec<Instruction>, AllocError>
-    ensures { IfOk result (λ made. (inner : ℕ → Body)
+    ensures acts { IfOk result (λ made. (inner : ℕ → Body)
         → acts (λ n. linked_body (map columned tables.now) (map decl declarations.now) (inner n)) made.items
         ≡ linked_body (map columned tables.now) (map decl declarations.now) (body_of inner statements.now)) }
+    ensures short { IfOk result (λ made. AreShort kinds.now made.items) }
 {
     let mut made = Vec::new(alloc);
     made.reserve(statements.len())?;
@@ -355,6 +359,7 @@ fn instructions(
         let operation = operation(alloc, declarations, tables, &statement.action)?;
         made.push(Instruction {
             number: statement.number,
+            short: short_form(kinds, &operation),
             operation,
         })?;
     }
@@ -365,14 +370,16 @@ fn code_blocks(
     alloc: Global,
     declarations: &[Declaration],
     tables: &[TableNames],
+    kinds: &[Kind],
     blocks: &[Block],
 ) -> Result<Vec<CodeBlock>, AllocError>
-    ensures { IfOk result (λ made. AreBlocksOf (map columned tables.now) (map decl declarations.now) made.items blocks.now) }
+    ensures blocks { IfOk result (λ made. AreBlocksOf (map columned tables.now) (map decl declarations.now) made.items blocks.now) }
+    ensures short { IfOk result (λ made. AreShortBlocks kinds.now made.items) }
 {
     let mut made = Vec::new(alloc);
     made.reserve(blocks.len())?;
     for block in blocks {
-        let instructions = instructions(alloc, declarations, tables, &block.statements)?;
+        let instructions = instructions(alloc, declarations, tables, kinds, &block.statements)?;
         made.push(CodeBlock { instructions })?;
     }
     Ok(made)
@@ -382,12 +389,14 @@ fn code(
     alloc: Global,
     declarations: &[Declaration],
     tables: &[TableNames],
+    kinds: &[Kind],
     procedure: &Procedure,
 ) -> Result<Code, AllocError>
+    requires kinds { kinds.now ≡ kinds_of (map decl declarations.now) }
     ensures { IfOk result (λ made. IsCodeOf (map columned tables.now) (map decl declarations.now) made (proc procedure.now)) }
 {
     let slots = procedure.names.len();
-    let blocks = code_blocks(alloc, declarations, tables, &procedure.blocks)?;
+    let blocks = code_blocks(alloc, declarations, tables, kinds, &procedure.blocks)?;
     Ok(Code {
         memo: procedure.memo,
         slots,
@@ -404,10 +413,25 @@ pub fn codes(
     ensures codes { IfOk result (λ made. AreCodesOf (map columned tables.now)
         (map decl declarations.now) made.items (procedures (map decl declarations.now))) }
 {
+    let kinds = kinds(alloc, declarations)?;
+    codes_over(alloc, declarations, tables, &kinds)
+}
+
+// The same, where the reducers have these kinds.
+fn codes_over(
+    alloc: Global,
+    declarations: &[Declaration],
+    tables: &[TableNames],
+    kinds: &[Kind],
+) -> Result<Vec<Code>, AllocError>
+    requires kinds { kinds.now ≡ kinds_of (map decl declarations.now) }
+    ensures codes { IfOk result (λ made. AreCodesOf (map columned tables.now)
+        (map decl declarations.now) made.items (procedures (map decl declarations.now))) }
+{
     let mut made = Vec::new(alloc);
     for declaration in declarations {
         if let Declaration::Procedure(procedure) = declaration {
-            made.push(code(alloc, declarations, tables, procedure)?)?;
+            made.push(code(alloc, declarations, tables, kinds, procedure)?)?;
         }
     }
     Ok(made)

@@ -1,8 +1,9 @@
 pub mod AtOnce
+pub mod Beside
 pub mod Choices
-pub mod Ones
 pub mod Paths
 pub mod Placed
+pub mod Shorts
 pub mod Updates
 pub mod LeavesOpened
 pub mod OwnCalls

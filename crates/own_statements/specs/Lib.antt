@@ -3,3 +3,4 @@ pub mod Paths
 pub mod Runs
 pub mod Leaves
 pub mod Recursion
+pub mod Effects

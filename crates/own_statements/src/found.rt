@@ -2,6 +2,7 @@
 ghost use Rattle.std.specs.Prelude.{◌≡◌, IfSome, Some, slice_get};
 ghost use Rattle.meaning.specs.Tables.{Tables as TableList};
 ghost use Rattle.linked_program.specs.CodeView.{expression as plain, on_row as row_of};
+ghost use Rattle.linked_program.specs.Linked.{slot as slot_of};
 ghost use Rattle.evaluation.specs.declared.slot.Slot.TheVariants.{Has};
 ghost use Rattle.evaluation.specs.Values.{pure, value_at};
 ghost use Rattle.own_statements.specs.Fills.{Fills};
@@ -29,8 +30,9 @@ pub fn number_at_once(expression: &Expression, slots: &[Slot]) -> Option<i64>
 
 /// The number that a slot has, if it has one.
 #[inline(always)]
-fn number_there(slots: &[Slot], place: usize) -> Option<i64>
+pub(crate) fn number_there(slots: &[Slot], place: usize) -> Option<i64>
     ensures has { IfSome result (λ v. slice_get slots.now place ≡ Some (Has v)) }
+    ensures value { IfSome result (λ v. (all : TableList) → value_at all slots.now (slot_of place) ≡ pure v) }
 {
     match slots.get(place) {
         None => None,
@@ -66,7 +68,7 @@ pub fn value_at_once<V: View>(
 /// nothing that is compiled by itself, so the other forms save no register for it.
 #[inline(always)]
 #[tactic(auto, using(crate::proofs::AtOnce::unkept_fills))]
-fn on_row<V: View>(
+pub(crate) fn on_row<V: View>(
     layer: &Layer<V>,
     operator: Operator,
     cells: &RowCells,

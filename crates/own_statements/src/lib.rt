@@ -10,4 +10,5 @@ pub mod leaves;
 pub mod ran;
 pub mod recursion;
 pub mod runs;
+mod short_forms;
 pub mod statements;

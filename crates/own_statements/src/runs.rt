@@ -9,6 +9,7 @@ ghost use Rattle.own_statements.specs.Runs.{RunsTo, IsBlock, IsBody};
 
 use crate::combining::combine_some;
 use crate::ran::Ran;
+use crate::short_forms::perform_short;
 use crate::statements::{Chosen, Did, Here, choose, perform_alone};
 use activations::activation::{Activation, FIRST};
 use activations::code::instructions;
@@ -141,11 +142,24 @@ fn run_block<'a, V: View>(
     ensures ran { RunsTo (lent setting.entry) passes_syncs (at (Work.Block position) top.old) layer.old result top.new layer.new }
     ensures kinds { layer.new.kinds ≡ layer.old.kinds }
 {
+    setting.program.short();
     let block = position.block;
     let mut index = position.index;
     while index < statements.len() {
         let position = Position { block, index };
         let statement = &statements[index];
+        match perform_short(layer, setting, passes_syncs, position, statement, top) {
+            Did::Next => {
+                index += 1;
+                continue;
+            }
+            Did::Gave(value) => {
+                top.stand(position);
+                return Ran::Gave(value);
+            }
+            Did::Moved => return ran_to(setting, top),
+            Did::Nothing => {}
+        }
         if let Operation::Update(reducer, values) = &statement.operation {
             let here = Here {
                 statement: statement.number,

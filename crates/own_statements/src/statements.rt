@@ -123,9 +123,8 @@ fn bind<V: View>(
 }
 
 /// Puts the value of whatever expression into a slot.
-#[cold]
 #[inline(never)]
-fn bind_evaluated<V: View>(
+pub(crate) fn bind_evaluated<V: View>(
     layer: &mut Layer<V>,
     tables: &Tables,
     here: Here,

@@ -1,7 +1,10 @@
 use Rattle.std.proofs.Common.{map, take}
 use Rattle.meaning.specs.TreeView.{decl}
 use Rattle.linked_program.specs.TableNames.{columned}
+use Rattle.linked_program.specs.declared.code.CodeBlock.{CodeBlock}
+use Rattle.linked_program.specs.CodeView.{AreShort}
 use Rattle.linked_program.proofs.Pushes.{take_one_more, block_push}
+use Rattle.linked_program.proofs.Shorts.{all_push}
 use Rattle.linked_program.proofs.linking.code_blocks.Goals as goal
 
 pub loop-block-preserved : goal.loop-block-preserved
@@ -11,5 +14,10 @@ loop-block-preserved c =
     let bs = c.args.blocks.now in
     let i = c.loop-block.block-index in
     let b = c.block-item.result in
-    rw (c.in_ok-push.ensures.items, take_one_more bs i b c.loop-block-test.true c.block-item.is)
-    (block_push ts t c.loop-block.made.items (take i bs) (record { instructions = c.in_ok-instructions.instructions }) b c.loop-block.invariant (rw c.deref.ensures.value at c.in_ok-instructions.ensures))
+    let cs = c.loop-block.made.items in
+    let x : CodeBlock = record { instructions = c.in_ok-instructions.instructions } in
+    record {
+      blocks = rw (c.in_ok-push.ensures.items, take_one_more bs i b c.loop-block-test.true c.block-item.is)
+          (block_push ts t cs (take i bs) x b c.loop-block.invariant.blocks (rw c.deref.ensures.value at c.in_ok-instructions.ensures.acts));
+      short = rw (c.in_ok-push.ensures.items) (all_push (λ (y : CodeBlock). AreShort c.args.kinds.now y.instructions.items) cs x c.loop-block.invariant.short c.in_ok-instructions.ensures.short);
+    }

@@ -9,7 +9,7 @@ use Rattle.positions.specs.Advance.{evaluated, combining}
 use Rattle.activations.specs.Given.{lent}
 use Rattle.own_statements.specs.declared.statements.Did.TheVariants.{Nothing, Next}
 use Rattle.own_statements.specs.Paths.{topped}
-use Rattle.own_statements.proofs.Ones.{one_of, two_of}
+use Rattle.linked_program.proofs.Ones.{one_of, two_of}
 use Rattle.own_statements.proofs.Paths.{does_as}
 use Rattle.own_statements.proofs.combining.combine_evaluated.Goals as goal
 

@@ -13,6 +13,7 @@ use Rattle.own_statements.specs.declared.statements.Chosen.{Chosen}
 use Rattle.own_statements.specs.declared.statements.Chosen.TheVariants as chosen
 use Rattle.own_statements.specs.Paths.{here, ComesTo, Chooses, Does, OnNext, IsInBlock}
 use Rattle.own_statements.proofs.Paths.{run_join, come_next, come_passed, come_inside, come_moved, come_gave, come_none, come_out, found_as}
+use Rattle.own_statements.proofs.Beside.{short_beside}
 use Rattle.own_statements.proofs.Choices.{chooses_if}
 use Rattle.own_statements.proofs.Updates.{does_update}
 use Rattle.own_statements.proofs.runs.run_block.Goals as goal
@@ -28,15 +29,25 @@ loop-index-preserved g c =
     let index = c.loop-index.index in
     let i = c.index-statements-index.result in
     let p : Position = record { block = c.args.position.block; index = index } in
-    let b = c.loop-index.top in
     let there : index < length xs = search rules in
-    let found : Some i ≡ instruction_inside S.codes b.procedure (length b.outer) p =
+    let before = c.loop-index.top in
+    let l0 = c.loop-index.layer in
+    let there0 : Some i ≡ instruction_inside S.codes before.procedure (length before.outer) p =
     sym (slice_get_read xs (length xs) index i refl there c.index-statements-index.is) ∙ c.requires.block index
-    ∙ found_as S.codes c.args.top.now b p c.loop-index.invariant.same.0 c.loop-index.invariant.same.1 in
+    ∙ found_as S.codes c.args.top.now before p c.loop-index.invariant.same.0 c.loop-index.invariant.same.1 in
+    let b = c.perform_short.new.top in
+    let l = c.perform_short.new.layer in
+    let undone = c.in-Nothing.ensures.done in
+    let come : ComesTo S c.args.passes_syncs a c.args.layer.now None (at (Block p) b) l =
+    come_none S c.args.passes_syncs a c.args.layer.now p before l0 c.loop-index.invariant.come i there0 b l undone in
+    let within : IsInBlock c.args.top.now b =
+    (ap (λ (z : PlainActivation). z.procedure) undone.0 ∙ c.loop-index.invariant.same.0, ap (λ (z : PlainActivation). z.outer) undone.0 ∙ c.loop-index.invariant.same.1) in
+    let kept : l.kinds ≡ c.args.layer.now.kinds = c.perform_short.ensures.kinds ∙ c.loop-index.invariant.kinds in
+    let found : Some i ≡ instruction_inside S.codes b.procedure (length b.outer) p = there0 ∙ found_as S.codes before b p (ap (λ (z : PlainActivation). z.procedure) undone.0) (ap (λ (z : PlainActivation). z.outer) undone.0) in
     record {
-      kinds = c.in-Next.ensures.kinds ∙ c.loop-index.invariant.kinds;
-      same = (c.in-Next.ensures.same_block.0 ∙ c.loop-index.invariant.same.0, c.in-Next.ensures.same_block.1 ∙ c.loop-index.invariant.same.1);
-      come = come_next S c.args.passes_syncs a c.args.layer.now p b c.loop-index.layer c.loop-index.invariant.come i found c.perform_alone.new.top c.perform_alone.new.layer c.in-Next.ensures.done;
+      kinds = c.in-Next-perform_alone.ensures.kinds ∙ kept;
+      same = (c.in-Next-perform_alone.ensures.same_block.0 ∙ within.0, c.in-Next-perform_alone.ensures.same_block.1 ∙ within.1);
+      come = come_next S c.args.passes_syncs a c.args.layer.now p b l come i found c.perform_alone.new.top c.perform_alone.new.layer c.in-Next-perform_alone.ensures.done;
     }
 
 pub loop-index-preserved-in-Update : goal.loop-index-preserved-in-Update
@@ -47,25 +58,35 @@ loop-index-preserved-in-Update g c =
     let index = c.loop-index.index in
     let i = c.index-statements-index.result in
     let p : Position = record { block = c.args.position.block; index = index } in
-    let b = c.loop-index.top in
     let there : index < length xs = search rules in
-    let found : Some i ≡ instruction_inside S.codes b.procedure (length b.outer) p =
+    let before = c.loop-index.top in
+    let l0 = c.loop-index.layer in
+    let there0 : Some i ≡ instruction_inside S.codes before.procedure (length before.outer) p =
     sym (slice_get_read xs (length xs) index i refl there c.index-statements-index.is) ∙ c.requires.block index
-    ∙ found_as S.codes c.args.top.now b p c.loop-index.invariant.same.0 c.loop-index.invariant.same.1 in
+    ∙ found_as S.codes c.args.top.now before p c.loop-index.invariant.same.0 c.loop-index.invariant.same.1 in
+    let b = c.perform_short.new.top in
+    let l = c.perform_short.new.layer in
+    let undone = c.in-Nothing.ensures.done in
+    let come : ComesTo S c.args.passes_syncs a c.args.layer.now None (at (Block p) b) l =
+    come_none S c.args.passes_syncs a c.args.layer.now p before l0 c.loop-index.invariant.come i there0 b l undone in
+    let within : IsInBlock c.args.top.now b =
+    (ap (λ (z : PlainActivation). z.procedure) undone.0 ∙ c.loop-index.invariant.same.0, ap (λ (z : PlainActivation). z.outer) undone.0 ∙ c.loop-index.invariant.same.1) in
+    let kept : l.kinds ≡ c.args.layer.now.kinds = c.perform_short.ensures.kinds ∙ c.loop-index.invariant.kinds in
+    let found : Some i ≡ instruction_inside S.codes b.procedure (length b.outer) p = there0 ∙ found_as S.codes before b p (ap (λ (z : PlainActivation). z.procedure) undone.0) (ap (λ (z : PlainActivation). z.outer) undone.0) in
     let t = c.combine_some.result in
     let did : t ≡ true = search rules in
     let es : c.as_slice-values.result.now ≡ c.in-Update.values.items = search rules in
     let r = c.in-Update.reducer in
     let m = c.combine_some.new.top in
     let n = c.combine_some.new.layer in
-    let done : Does c.args.passes_syncs p (λ kit. evaluated i.number (values_at S.tables b.slots (map expression c.as_slice-values.result.now)) (combining (slice_get S.kinds r) i.number p r)) b c.loop-index.layer Next m n =
-    subst (λ (u : Bool). Does c.args.passes_syncs p (λ kit. evaluated i.number (values_at S.tables b.slots (map expression c.as_slice-values.result.now)) (combining (slice_get S.kinds r) i.number p r)) b c.loop-index.layer (if u then Next else Nothing) m n) did c.combine_some.ensures.done in
+    let done : Does c.args.passes_syncs p (λ kit. evaluated i.number (values_at S.tables b.slots (map expression c.as_slice-values.result.now)) (combining (slice_get S.kinds r) i.number p r)) b l Next m n =
+    subst (λ (u : Bool). Does c.args.passes_syncs p (λ kit. evaluated i.number (values_at S.tables b.slots (map expression c.as_slice-values.result.now)) (combining (slice_get S.kinds r) i.number p r)) b l (if u then Next else Nothing) m n) did c.combine_some.ensures.done in
     let same : IsInBlock b m = subst (λ (u : Bool). OnNext (if u then Next else Nothing) (IsInBlock b m)) did c.combine_some.ensures.same_block in
     record {
-      kinds = c.combine_some.ensures.kinds ∙ c.loop-index.invariant.kinds;
-      same = (same.0 ∙ c.loop-index.invariant.same.0, same.1 ∙ c.loop-index.invariant.same.1);
-      come = come_next S c.args.passes_syncs a c.args.layer.now p b c.loop-index.layer c.loop-index.invariant.come i found m n
-          (does_update S c.args.passes_syncs p i.number r c.in-Update.values c.as_slice-values.result.now i.operation b c.loop-index.layer Next m n c.in-Update.is es done);
+      kinds = c.combine_some.ensures.kinds ∙ kept;
+      same = (same.0 ∙ within.0, same.1 ∙ within.1);
+      come = come_next S c.args.passes_syncs a c.args.layer.now p b l come i found m n
+          (does_update S c.args.passes_syncs p i.number r c.in-Update.values c.as_slice-values.result.now i.operation b l Next m n c.in-Update.is es done);
     }
 
 pub returns-then-not-combine_some-clause-ran : goal.returns-then-not-combine_some-clause-ran
@@ -76,57 +97,87 @@ returns-then-not-combine_some-clause-ran g c =
     let index = c.loop-index.index in
     let i = c.index-statements-index.result in
     let p : Position = record { block = c.args.position.block; index = index } in
-    let b = c.loop-index.top in
     let there : index < length xs = search rules in
-    let found : Some i ≡ instruction_inside S.codes b.procedure (length b.outer) p =
+    let before = c.loop-index.top in
+    let l0 = c.loop-index.layer in
+    let there0 : Some i ≡ instruction_inside S.codes before.procedure (length before.outer) p =
     sym (slice_get_read xs (length xs) index i refl there c.index-statements-index.is) ∙ c.requires.block index
-    ∙ found_as S.codes c.args.top.now b p c.loop-index.invariant.same.0 c.loop-index.invariant.same.1 in
+    ∙ found_as S.codes c.args.top.now before p c.loop-index.invariant.same.0 c.loop-index.invariant.same.1 in
+    let b = c.perform_short.new.top in
+    let l = c.perform_short.new.layer in
+    let undone = c.in-Nothing.ensures.done in
+    let come : ComesTo S c.args.passes_syncs a c.args.layer.now None (at (Block p) b) l =
+    come_none S c.args.passes_syncs a c.args.layer.now p before l0 c.loop-index.invariant.come i there0 b l undone in
+    let within : IsInBlock c.args.top.now b =
+    (ap (λ (z : PlainActivation). z.procedure) undone.0 ∙ c.loop-index.invariant.same.0, ap (λ (z : PlainActivation). z.outer) undone.0 ∙ c.loop-index.invariant.same.1) in
+    let kept : l.kinds ≡ c.args.layer.now.kinds = c.perform_short.ensures.kinds ∙ c.loop-index.invariant.kinds in
+    let found : Some i ≡ instruction_inside S.codes b.procedure (length b.outer) p = there0 ∙ found_as S.codes before b p (ap (λ (z : PlainActivation). z.procedure) undone.0) (ap (λ (z : PlainActivation). z.outer) undone.0) in
     let t = c.combine_some.result in
     let did : t ≡ false = search rules in
     let es : c.as_slice-values.result.now ≡ c.in-Update.values.items = search rules in
     let r = c.in-Update.reducer in
     let m = c.combine_some.new.top in
     let n = c.combine_some.new.layer in
-    let done : Does c.args.passes_syncs p (λ kit. evaluated i.number (values_at S.tables b.slots (map expression c.as_slice-values.result.now)) (combining (slice_get S.kinds r) i.number p r)) b c.loop-index.layer Nothing m n =
-    subst (λ (u : Bool). Does c.args.passes_syncs p (λ kit. evaluated i.number (values_at S.tables b.slots (map expression c.as_slice-values.result.now)) (combining (slice_get S.kinds r) i.number p r)) b c.loop-index.layer (if u then Next else Nothing) m n) did c.combine_some.ensures.done in
-    subst (λ (y : PlainActivation). ComesTo S c.args.passes_syncs a c.args.layer.now None y n) (sym c.stand.ensures.stands)
-    (come_none S c.args.passes_syncs a c.args.layer.now p b c.loop-index.layer c.loop-index.invariant.come i found m n
-    (does_update S c.args.passes_syncs p i.number r c.in-Update.values c.as_slice-values.result.now i.operation b c.loop-index.layer Nothing m n c.in-Update.is es done))
+    let done : Does c.args.passes_syncs p (λ kit. evaluated i.number (values_at S.tables b.slots (map expression c.as_slice-values.result.now)) (combining (slice_get S.kinds r) i.number p r)) b l Nothing m n =
+    subst (λ (u : Bool). Does c.args.passes_syncs p (λ kit. evaluated i.number (values_at S.tables b.slots (map expression c.as_slice-values.result.now)) (combining (slice_get S.kinds r) i.number p r)) b l (if u then Next else Nothing) m n) did c.combine_some.ensures.done in
+    subst (λ (y : PlainActivation). ComesTo S c.args.passes_syncs a c.args.layer.now None y n) (sym c.stand-then-not-combine_some.ensures.stands)
+    (come_none S c.args.passes_syncs a c.args.layer.now p b l come i found m n
+    (does_update S c.args.passes_syncs p i.number r c.in-Update.values c.as_slice-values.result.now i.operation b l Nothing m n c.in-Update.is es done))
 
-pub returns-in-Moved-clause-ran : goal.returns-in-Moved-clause-ran
-returns-in-Moved-clause-ran g c =
+pub returns-in-Moved-perform_alone-clause-ran : goal.returns-in-Moved-perform_alone-clause-ran
+returns-in-Moved-perform_alone-clause-ran g c =
     let S = lent c.args.setting in
     let a = at (Block c.args.position) c.args.top.now in
     let xs = c.args.statements.now in
     let index = c.loop-index.index in
     let i = c.index-statements-index.result in
     let p : Position = record { block = c.args.position.block; index = index } in
-    let b = c.loop-index.top in
     let there : index < length xs = search rules in
-    let found : Some i ≡ instruction_inside S.codes b.procedure (length b.outer) p =
+    let before = c.loop-index.top in
+    let l0 = c.loop-index.layer in
+    let there0 : Some i ≡ instruction_inside S.codes before.procedure (length before.outer) p =
     sym (slice_get_read xs (length xs) index i refl there c.index-statements-index.is) ∙ c.requires.block index
-    ∙ found_as S.codes c.args.top.now b p c.loop-index.invariant.same.0 c.loop-index.invariant.same.1 in
-    run_join S c.args.passes_syncs a c.args.layer.now c.perform_alone.new.top c.perform_alone.new.layer c.ran_to-in-Moved.result c.perform_alone.new.top c.perform_alone.new.layer
-    (come_moved S c.args.passes_syncs a c.args.layer.now p b c.loop-index.layer c.loop-index.invariant.come i found c.perform_alone.new.top c.perform_alone.new.layer c.in-Moved.ensures.done)
-    (c.ran_to-in-Moved.ensures.runs c.args.passes_syncs c.perform_alone.new.layer)
+    ∙ found_as S.codes c.args.top.now before p c.loop-index.invariant.same.0 c.loop-index.invariant.same.1 in
+    let b = c.perform_short.new.top in
+    let l = c.perform_short.new.layer in
+    let undone = c.in-Nothing.ensures.done in
+    let come : ComesTo S c.args.passes_syncs a c.args.layer.now None (at (Block p) b) l =
+    come_none S c.args.passes_syncs a c.args.layer.now p before l0 c.loop-index.invariant.come i there0 b l undone in
+    let within : IsInBlock c.args.top.now b =
+    (ap (λ (z : PlainActivation). z.procedure) undone.0 ∙ c.loop-index.invariant.same.0, ap (λ (z : PlainActivation). z.outer) undone.0 ∙ c.loop-index.invariant.same.1) in
+    let kept : l.kinds ≡ c.args.layer.now.kinds = c.perform_short.ensures.kinds ∙ c.loop-index.invariant.kinds in
+    let found : Some i ≡ instruction_inside S.codes b.procedure (length b.outer) p = there0 ∙ found_as S.codes before b p (ap (λ (z : PlainActivation). z.procedure) undone.0) (ap (λ (z : PlainActivation). z.outer) undone.0) in
+    run_join S c.args.passes_syncs a c.args.layer.now c.perform_alone.new.top c.perform_alone.new.layer c.ran_to-in-Moved-perform_alone.result c.perform_alone.new.top c.perform_alone.new.layer
+    (come_moved S c.args.passes_syncs a c.args.layer.now p b l come i found c.perform_alone.new.top c.perform_alone.new.layer c.in-Moved-perform_alone.ensures.done)
+    (c.ran_to-in-Moved-perform_alone.ensures.runs c.args.passes_syncs c.perform_alone.new.layer)
 
-pub returns-in-Gave-clause-ran : goal.returns-in-Gave-clause-ran
-returns-in-Gave-clause-ran g c =
+pub returns-in-Gave-perform_alone-clause-ran : goal.returns-in-Gave-perform_alone-clause-ran
+returns-in-Gave-perform_alone-clause-ran g c =
     let S = lent c.args.setting in
     let a = at (Block c.args.position) c.args.top.now in
     let xs = c.args.statements.now in
     let index = c.loop-index.index in
     let i = c.index-statements-index.result in
     let p : Position = record { block = c.args.position.block; index = index } in
-    let b = c.loop-index.top in
     let there : index < length xs = search rules in
-    let found : Some i ≡ instruction_inside S.codes b.procedure (length b.outer) p =
+    let before = c.loop-index.top in
+    let l0 = c.loop-index.layer in
+    let there0 : Some i ≡ instruction_inside S.codes before.procedure (length before.outer) p =
     sym (slice_get_read xs (length xs) index i refl there c.index-statements-index.is) ∙ c.requires.block index
-    ∙ found_as S.codes c.args.top.now b p c.loop-index.invariant.same.0 c.loop-index.invariant.same.1 in
-    let same : c.in-Gave.value ≡ to_z w64 (of_z w64 c.in-Gave.value) = search rules in
-    subst (λ (v : ℤ). ComesTo S c.args.passes_syncs a c.args.layer.now (Some v) c.stand-in-Gave.new.self c.perform_alone.new.layer) same
-    (subst (λ (y : PlainActivation). ComesTo S c.args.passes_syncs a c.args.layer.now (Some c.in-Gave.value) y c.perform_alone.new.layer) (sym c.stand-in-Gave.ensures.stands)
-    (come_gave S c.args.passes_syncs a c.args.layer.now p b c.loop-index.layer c.loop-index.invariant.come i found c.perform_alone.new.top c.perform_alone.new.layer c.in-Gave.value c.in-Gave.ensures.done))
+    ∙ found_as S.codes c.args.top.now before p c.loop-index.invariant.same.0 c.loop-index.invariant.same.1 in
+    let b = c.perform_short.new.top in
+    let l = c.perform_short.new.layer in
+    let undone = c.in-Nothing.ensures.done in
+    let come : ComesTo S c.args.passes_syncs a c.args.layer.now None (at (Block p) b) l =
+    come_none S c.args.passes_syncs a c.args.layer.now p before l0 c.loop-index.invariant.come i there0 b l undone in
+    let within : IsInBlock c.args.top.now b =
+    (ap (λ (z : PlainActivation). z.procedure) undone.0 ∙ c.loop-index.invariant.same.0, ap (λ (z : PlainActivation). z.outer) undone.0 ∙ c.loop-index.invariant.same.1) in
+    let kept : l.kinds ≡ c.args.layer.now.kinds = c.perform_short.ensures.kinds ∙ c.loop-index.invariant.kinds in
+    let found : Some i ≡ instruction_inside S.codes b.procedure (length b.outer) p = there0 ∙ found_as S.codes before b p (ap (λ (z : PlainActivation). z.procedure) undone.0) (ap (λ (z : PlainActivation). z.outer) undone.0) in
+    let same : c.in-Gave-perform_alone.value ≡ to_z w64 (of_z w64 c.in-Gave-perform_alone.value) = search rules in
+    subst (λ (v : ℤ). ComesTo S c.args.passes_syncs a c.args.layer.now (Some v) c.stand-in-Gave-perform_alone.new.self c.perform_alone.new.layer) same
+    (subst (λ (y : PlainActivation). ComesTo S c.args.passes_syncs a c.args.layer.now (Some c.in-Gave-perform_alone.value) y c.perform_alone.new.layer) (sym c.stand-in-Gave-perform_alone.ensures.stands)
+    (come_gave S c.args.passes_syncs a c.args.layer.now p b l come i found c.perform_alone.new.top c.perform_alone.new.layer c.in-Gave-perform_alone.value c.in-Gave-perform_alone.ensures.done))
 
 pub returns-clause-ran : goal.returns-clause-ran
 returns-clause-ran g c =
@@ -151,23 +202,33 @@ loop-index-preserved-in-Passed g c =
     let index = c.loop-index.index in
     let i = c.index-statements-index.result in
     let p : Position = record { block = c.args.position.block; index = index } in
-    let b = c.loop-index.top in
     let there : index < length xs = search rules in
-    let found : Some i ≡ instruction_inside S.codes b.procedure (length b.outer) p =
+    let before = c.loop-index.top in
+    let l0 = c.loop-index.layer in
+    let there0 : Some i ≡ instruction_inside S.codes before.procedure (length before.outer) p =
     sym (slice_get_read xs (length xs) index i refl there c.index-statements-index.is) ∙ c.requires.block index
-    ∙ found_as S.codes c.args.top.now b p c.loop-index.invariant.same.0 c.loop-index.invariant.same.1 in
+    ∙ found_as S.codes c.args.top.now before p c.loop-index.invariant.same.0 c.loop-index.invariant.same.1 in
+    let b = c.perform_short.new.top in
+    let l = c.perform_short.new.layer in
+    let undone = c.in-Nothing.ensures.done in
+    let come : ComesTo S c.args.passes_syncs a c.args.layer.now None (at (Block p) b) l =
+    come_none S c.args.passes_syncs a c.args.layer.now p before l0 c.loop-index.invariant.come i there0 b l undone in
+    let within : IsInBlock c.args.top.now b =
+    (ap (λ (z : PlainActivation). z.procedure) undone.0 ∙ c.loop-index.invariant.same.0, ap (λ (z : PlainActivation). z.outer) undone.0 ∙ c.loop-index.invariant.same.1) in
+    let kept : l.kinds ≡ c.args.layer.now.kinds = c.perform_short.ensures.kinds ∙ c.loop-index.invariant.kinds in
+    let found : Some i ≡ instruction_inside S.codes b.procedure (length b.outer) p = there0 ∙ found_as S.codes before b p (ap (λ (z : PlainActivation). z.procedure) undone.0) (ap (λ (z : PlainActivation). z.outer) undone.0) in
     let m = c.choose.new.top in
     let n = c.choose.new.layer in
     let block = c.in-If.second in
-    let done : (ch : Chosen) → Chooses c.args.passes_syncs p block (λ kit. evaluated i.number (value_at S.tables b.slots (expression c.in-If.condition)) (choosing p c.in-If.first block)) b c.loop-index.layer ch m n
-    → Chooses c.args.passes_syncs p block (λ kit. performed S kit p i.number i.operation) b c.loop-index.layer ch m n =
-    λ ch h. chooses_if S c.args.passes_syncs p i.number c.in-If.condition c.in-If.first block i.operation b c.loop-index.layer ch m n c.in-If.is h in
+    let done : (ch : Chosen) → Chooses c.args.passes_syncs p block (λ kit. evaluated i.number (value_at S.tables b.slots (expression c.in-If.condition)) (choosing p c.in-If.first block)) b l ch m n
+    → Chooses c.args.passes_syncs p block (λ kit. performed S kit p i.number i.operation) b l ch m n =
+    λ ch h. chooses_if S c.args.passes_syncs p i.number c.in-If.condition c.in-If.first block i.operation b l ch m n c.in-If.is h in
     let none : instruction_at S.codes m.procedure block 0 ≡ None =
     ap (λ f. instruction_at S.codes f block 0) c.in-Passed.ensures.same_block.0 ∙ c.in-Passed.ensures.empty in
     record {
-      kinds = c.choose.ensures.kinds ∙ c.loop-index.invariant.kinds;
-      same = (c.in-Passed.ensures.same_block.0 ∙ c.loop-index.invariant.same.0, c.in-Passed.ensures.same_block.1 ∙ c.loop-index.invariant.same.1);
-      come = come_passed S c.args.passes_syncs a c.args.layer.now p b c.loop-index.layer c.loop-index.invariant.come i found m n block none (done chosen.Passed c.in-Passed.ensures.done);
+      kinds = c.choose.ensures.kinds ∙ kept;
+      same = (c.in-Passed.ensures.same_block.0 ∙ within.0, c.in-Passed.ensures.same_block.1 ∙ within.1);
+      come = come_passed S c.args.passes_syncs a c.args.layer.now p b l come i found m n block none (done chosen.Passed c.in-Passed.ensures.done);
     }
 
 pub returns-in-Inside-clause-ran : goal.returns-in-Inside-clause-ran
@@ -178,23 +239,65 @@ returns-in-Inside-clause-ran g c =
     let index = c.loop-index.index in
     let i = c.index-statements-index.result in
     let p : Position = record { block = c.args.position.block; index = index } in
-    let b = c.loop-index.top in
     let there : index < length xs = search rules in
-    let found : Some i ≡ instruction_inside S.codes b.procedure (length b.outer) p =
+    let before = c.loop-index.top in
+    let l0 = c.loop-index.layer in
+    let there0 : Some i ≡ instruction_inside S.codes before.procedure (length before.outer) p =
     sym (slice_get_read xs (length xs) index i refl there c.index-statements-index.is) ∙ c.requires.block index
-    ∙ found_as S.codes c.args.top.now b p c.loop-index.invariant.same.0 c.loop-index.invariant.same.1 in
+    ∙ found_as S.codes c.args.top.now before p c.loop-index.invariant.same.0 c.loop-index.invariant.same.1 in
+    let b = c.perform_short.new.top in
+    let l = c.perform_short.new.layer in
+    let undone = c.in-Nothing.ensures.done in
+    let come : ComesTo S c.args.passes_syncs a c.args.layer.now None (at (Block p) b) l =
+    come_none S c.args.passes_syncs a c.args.layer.now p before l0 c.loop-index.invariant.come i there0 b l undone in
+    let within : IsInBlock c.args.top.now b =
+    (ap (λ (z : PlainActivation). z.procedure) undone.0 ∙ c.loop-index.invariant.same.0, ap (λ (z : PlainActivation). z.outer) undone.0 ∙ c.loop-index.invariant.same.1) in
+    let kept : l.kinds ≡ c.args.layer.now.kinds = c.perform_short.ensures.kinds ∙ c.loop-index.invariant.kinds in
+    let found : Some i ≡ instruction_inside S.codes b.procedure (length b.outer) p = there0 ∙ found_as S.codes before b p (ap (λ (z : PlainActivation). z.procedure) undone.0) (ap (λ (z : PlainActivation). z.outer) undone.0) in
     let m = c.choose.new.top in
     let n = c.choose.new.layer in
     let block = c.in-If.second in
-    let done : (ch : Chosen) → Chooses c.args.passes_syncs p block (λ kit. evaluated i.number (value_at S.tables b.slots (expression c.in-If.condition)) (choosing p c.in-If.first block)) b c.loop-index.layer ch m n
-    → Chooses c.args.passes_syncs p block (λ kit. performed S kit p i.number i.operation) b c.loop-index.layer ch m n =
-    λ ch h. chooses_if S c.args.passes_syncs p i.number c.in-If.condition c.in-If.first block i.operation b c.loop-index.layer ch m n c.in-If.is h in
-    run_join S c.args.passes_syncs a c.args.layer.now m n c.ran_to.result m n
-    (come_inside S c.args.passes_syncs a c.args.layer.now p b c.loop-index.layer c.loop-index.invariant.come i found m n block (done chosen.Inside c.in-Inside.ensures.done))
-    (c.ran_to.ensures.runs c.args.passes_syncs n)
+    let done : (ch : Chosen) → Chooses c.args.passes_syncs p block (λ kit. evaluated i.number (value_at S.tables b.slots (expression c.in-If.condition)) (choosing p c.in-If.first block)) b l ch m n
+    → Chooses c.args.passes_syncs p block (λ kit. performed S kit p i.number i.operation) b l ch m n =
+    λ ch h. chooses_if S c.args.passes_syncs p i.number c.in-If.condition c.in-If.first block i.operation b l ch m n c.in-If.is h in
+    run_join S c.args.passes_syncs a c.args.layer.now m n c.ran_to-in-Inside.result m n
+    (come_inside S c.args.passes_syncs a c.args.layer.now p b l come i found m n block (done chosen.Inside c.in-Inside.ensures.done))
+    (c.ran_to-in-Inside.ensures.runs c.args.passes_syncs n)
 
-pub returns-in-Nothing-clause-ran : goal.returns-in-Nothing-clause-ran
-returns-in-Nothing-clause-ran g c =
+pub returns-in-Nothing-choose-clause-ran : goal.returns-in-Nothing-choose-clause-ran
+returns-in-Nothing-choose-clause-ran g c =
+    let S = lent c.args.setting in
+    let a = at (Block c.args.position) c.args.top.now in
+    let xs = c.args.statements.now in
+    let index = c.loop-index.index in
+    let i = c.index-statements-index.result in
+    let p : Position = record { block = c.args.position.block; index = index } in
+    let there : index < length xs = search rules in
+    let before = c.loop-index.top in
+    let l0 = c.loop-index.layer in
+    let there0 : Some i ≡ instruction_inside S.codes before.procedure (length before.outer) p =
+    sym (slice_get_read xs (length xs) index i refl there c.index-statements-index.is) ∙ c.requires.block index
+    ∙ found_as S.codes c.args.top.now before p c.loop-index.invariant.same.0 c.loop-index.invariant.same.1 in
+    let b = c.perform_short.new.top in
+    let l = c.perform_short.new.layer in
+    let undone = c.in-Nothing.ensures.done in
+    let come : ComesTo S c.args.passes_syncs a c.args.layer.now None (at (Block p) b) l =
+    come_none S c.args.passes_syncs a c.args.layer.now p before l0 c.loop-index.invariant.come i there0 b l undone in
+    let within : IsInBlock c.args.top.now b =
+    (ap (λ (z : PlainActivation). z.procedure) undone.0 ∙ c.loop-index.invariant.same.0, ap (λ (z : PlainActivation). z.outer) undone.0 ∙ c.loop-index.invariant.same.1) in
+    let kept : l.kinds ≡ c.args.layer.now.kinds = c.perform_short.ensures.kinds ∙ c.loop-index.invariant.kinds in
+    let found : Some i ≡ instruction_inside S.codes b.procedure (length b.outer) p = there0 ∙ found_as S.codes before b p (ap (λ (z : PlainActivation). z.procedure) undone.0) (ap (λ (z : PlainActivation). z.outer) undone.0) in
+    let m = c.choose.new.top in
+    let n = c.choose.new.layer in
+    let block = c.in-If.second in
+    let done : (ch : Chosen) → Chooses c.args.passes_syncs p block (λ kit. evaluated i.number (value_at S.tables b.slots (expression c.in-If.condition)) (choosing p c.in-If.first block)) b l ch m n
+    → Chooses c.args.passes_syncs p block (λ kit. performed S kit p i.number i.operation) b l ch m n =
+    λ ch h. chooses_if S c.args.passes_syncs p i.number c.in-If.condition c.in-If.first block i.operation b l ch m n c.in-If.is h in
+    subst (λ (y : PlainActivation). ComesTo S c.args.passes_syncs a c.args.layer.now None y n) (sym c.stand-in-Nothing-choose.ensures.stands)
+    (come_none S c.args.passes_syncs a c.args.layer.now p b l come i found m n (done chosen.Nothing c.in-Nothing-choose.ensures.done))
+
+pub perform_short-requires-clause-short : goal.perform_short-requires-clause-short
+perform_short-requires-clause-short g c κs within =
     let S = lent c.args.setting in
     let a = at (Block c.args.position) c.args.top.now in
     let xs = c.args.statements.now in
@@ -206,11 +309,62 @@ returns-in-Nothing-clause-ran g c =
     let found : Some i ≡ instruction_inside S.codes b.procedure (length b.outer) p =
     sym (slice_get_read xs (length xs) index i refl there c.index-statements-index.is) ∙ c.requires.block index
     ∙ found_as S.codes c.args.top.now b p c.loop-index.invariant.same.0 c.loop-index.invariant.same.1 in
-    let m = c.choose.new.top in
-    let n = c.choose.new.layer in
-    let block = c.in-If.second in
-    let done : (ch : Chosen) → Chooses c.args.passes_syncs p block (λ kit. evaluated i.number (value_at S.tables b.slots (expression c.in-If.condition)) (choosing p c.in-If.first block)) b c.loop-index.layer ch m n
-    → Chooses c.args.passes_syncs p block (λ kit. performed S kit p i.number i.operation) b c.loop-index.layer ch m n =
-    λ ch h. chooses_if S c.args.passes_syncs p i.number c.in-If.condition c.in-If.first block i.operation b c.loop-index.layer ch m n c.in-If.is h in
-    subst (λ (y : PlainActivation). ComesTo S c.args.passes_syncs a c.args.layer.now None y n) (sym c.stand-in-Nothing.ensures.stands)
-    (come_none S c.args.passes_syncs a c.args.layer.now p b c.loop-index.layer c.loop-index.invariant.come i found m n (done chosen.Nothing c.in-Nothing.ensures.done))
+    short_beside S.kinds S.codes b.procedure (length b.outer) p i c.short.ensures.short found
+
+pub loop-index-preserved-in-Next : goal.loop-index-preserved-in-Next
+loop-index-preserved-in-Next g c =
+    let S = lent c.args.setting in
+    let a = at (Block c.args.position) c.args.top.now in
+    let xs = c.args.statements.now in
+    let index = c.loop-index.index in
+    let i = c.index-statements-index.result in
+    let p : Position = record { block = c.args.position.block; index = index } in
+    let b = c.loop-index.top in
+    let there : index < length xs = search rules in
+    let found : Some i ≡ instruction_inside S.codes b.procedure (length b.outer) p =
+    sym (slice_get_read xs (length xs) index i refl there c.index-statements-index.is) ∙ c.requires.block index
+    ∙ found_as S.codes c.args.top.now b p c.loop-index.invariant.same.0 c.loop-index.invariant.same.1 in
+    record {
+      kinds = c.perform_short.ensures.kinds ∙ c.loop-index.invariant.kinds;
+      same = (c.in-Next.ensures.same_block.0 ∙ c.loop-index.invariant.same.0, c.in-Next.ensures.same_block.1 ∙ c.loop-index.invariant.same.1);
+      come = come_next S c.args.passes_syncs a c.args.layer.now p b c.loop-index.layer c.loop-index.invariant.come i found c.perform_short.new.top c.perform_short.new.layer c.in-Next.ensures.done;
+    }
+
+pub returns-in-Gave-clause-ran : goal.returns-in-Gave-clause-ran
+returns-in-Gave-clause-ran g c =
+    let S = lent c.args.setting in
+    let a = at (Block c.args.position) c.args.top.now in
+    let xs = c.args.statements.now in
+    let index = c.loop-index.index in
+    let i = c.index-statements-index.result in
+    let p : Position = record { block = c.args.position.block; index = index } in
+    let b = c.loop-index.top in
+    let there : index < length xs = search rules in
+    let found : Some i ≡ instruction_inside S.codes b.procedure (length b.outer) p =
+    sym (slice_get_read xs (length xs) index i refl there c.index-statements-index.is) ∙ c.requires.block index
+    ∙ found_as S.codes c.args.top.now b p c.loop-index.invariant.same.0 c.loop-index.invariant.same.1 in
+    let n = c.perform_short.new.layer in
+    let v = c.in-Gave.value in
+    let same : v ≡ to_z w64 (of_z w64 v) = search rules in
+    subst (λ (w : ℤ). ComesTo S c.args.passes_syncs a c.args.layer.now (Some w) c.stand.new.self n) same
+    (subst (λ (y : PlainActivation). ComesTo S c.args.passes_syncs a c.args.layer.now (Some v) y n) (sym c.stand.ensures.stands)
+    (come_gave S c.args.passes_syncs a c.args.layer.now p b c.loop-index.layer c.loop-index.invariant.come i found c.perform_short.new.top n v c.in-Gave.ensures.done))
+
+pub returns-in-Moved-clause-ran : goal.returns-in-Moved-clause-ran
+returns-in-Moved-clause-ran g c =
+    let S = lent c.args.setting in
+    let a = at (Block c.args.position) c.args.top.now in
+    let xs = c.args.statements.now in
+    let index = c.loop-index.index in
+    let i = c.index-statements-index.result in
+    let p : Position = record { block = c.args.position.block; index = index } in
+    let b = c.loop-index.top in
+    let there : index < length xs = search rules in
+    let found : Some i ≡ instruction_inside S.codes b.procedure (length b.outer) p =
+    sym (slice_get_read xs (length xs) index i refl there c.index-statements-index.is) ∙ c.requires.block index
+    ∙ found_as S.codes c.args.top.now b p c.loop-index.invariant.same.0 c.loop-index.invariant.same.1 in
+    let m = c.perform_short.new.top in
+    let n = c.perform_short.new.layer in
+    run_join S c.args.passes_syncs a c.args.layer.now m n c.ran_to.result m n
+    (come_moved S c.args.passes_syncs a c.args.layer.now p b c.loop-index.layer c.loop-index.invariant.come i found m n c.in-Moved.ensures.done)
+    (c.ran_to.ensures.runs c.args.passes_syncs n)

@@ -4,8 +4,8 @@ use Rattle.meaning.specs.TreeView.{decl, proc}
 use Rattle.linked_program.specs.TableNames.{columned}
 use Rattle.linked_program.specs.Procedures.{procedures}
 use Rattle.linked_program.proofs.Pushes.{take_one_more, code_push, procedures_push}
-use Rattle.linked_program.proofs.linking.codes.Goals as goal
-use Rattle.linked_program.proofs.linking.codes.Goals.{in-Procedure+in_ok-code+in_ok-push, in_default}
+use Rattle.linked_program.proofs.linking.codes_over.Goals as goal
+use Rattle.linked_program.proofs.linking.codes_over.Goals.{in-Procedure+in_ok-code+in_ok-push, in_default}
 
 pub loop-declaration-preserved : goal.loop-declaration-preserved
 loop-declaration-preserved c =

@@ -1,0 +1,14 @@
+use Rattle.std.proofs.Common.{sym, subst}
+use Rattle.linked_program.specs.declared.code.Operation.{Operation}
+use Rattle.linked_program.specs.CodeView.{act, IsFormOf}
+use Rattle.linked_program.proofs.shortening.short_form.Goals as goal
+
+pub returns-in-Bind : goal.returns-in-Bind
+returns-in-Bind c = record {
+  form = λ inner. subst (λ (op : Operation). IsFormOf c.args.kinds.now c.bind_form.result (act inner op)) (sym c.in-Bind.is) (c.bind_form.ensures.form c.args.kinds.now);
+}
+
+pub returns-in-Return : goal.returns-in-Return
+returns-in-Return c = record {
+  form = λ inner. subst (λ (op : Operation). IsFormOf c.args.kinds.now c.return_form.result (act inner op)) (sym c.in-Return.is) (c.return_form.ensures.form c.args.kinds.now);
+}
