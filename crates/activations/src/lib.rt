@@ -4,6 +4,7 @@
 pub mod activation;
 pub mod code;
 pub mod names;
+pub mod nest;
 pub mod setting;
 pub mod shares;
 pub mod spares;

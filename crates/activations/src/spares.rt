@@ -2,15 +2,19 @@
 ghost use Rattle.std.specs.Prelude.{◌≡◌, []};
 
 use crate::activation::Activation;
+use crate::nest::Nest;
 use evaluation::slot::Slot;
 use positions::work::{Position, Work};
 use std::alloc::Global;
 
-/// An instance that is over, for the next one that is called, and lists for others to come: of slots, of places, of instances that
-/// wait, and for names. What they held doesn't matter.
+// Instances that are called beside the strand go so many levels deep above the first one.
+const LEVELS: usize = 7;
+
+/// Instances that are over, for those that are called next, and lists for others to come: of slots, of places, of instances that wait,
+/// and for names. What they held doesn't matter.
 #[derive(Drop)]
 pub struct Spares {
-    pub child: Activation,
+    pub nest: Nest,
     slots: Vec<Vec<Slot>>,
     places: Vec<Vec<Position>>,
     waiting: Vec<Vec<Activation>>,
@@ -21,7 +25,10 @@ impl Spares {
     /// None yet.
     pub fn new(alloc: Global) -> Spares {
         Spares {
-            child: Activation::new(0, Vec::new(alloc), Vec::new(alloc), Work::Over, 0),
+            nest: Nest {
+                child: Activation::new(0, Vec::new(alloc), Vec::new(alloc), Work::Over, 0),
+                above: Vec::new(alloc),
+            },
             slots: Vec::new(alloc),
             places: Vec::new(alloc),
             waiting: Vec::new(alloc),
@@ -29,10 +36,31 @@ impl Spares {
         }
     }
 
+    /// Has further instances ready for those that the next called one calls, some levels deep; fewer where memory is refused.
+    #[inline(always)]
+    pub fn make_nest(&mut self, alloc: Global) {
+        if self.nest.above.len() < LEVELS {
+            self.fill_nest(alloc);
+        }
+    }
+
+    /// The same, where there are fewer.
+    #[cold]
+    #[inline(never)]
+    fn fill_nest(&mut self, alloc: Global) {
+        if self.nest.above.reserve(LEVELS).is_err() {
+            return;
+        }
+        for _ in self.nest.above.len()..LEVELS {
+            let blank = self.blank(alloc);
+            let _ = self.nest.above.push(blank);
+        }
+    }
+
     /// An instance in place of the one that is kept, with lists that are kept. Its slots hold what they held: most instances have
     /// as many as those before them, and those are written over at once.
     pub fn blank(&mut self, alloc: Global) -> Activation
-        ensures child { self.new.child ≡ self.old.child }
+        ensures nest { self.new.nest ≡ self.old.nest }
     {
         let slots = match self.slots.pop() {
             Some(slots) => slots,
@@ -45,7 +73,7 @@ impl Spares {
     /// An empty list of slots.
     pub fn slots(&mut self, alloc: Global) -> Vec<Slot>
         ensures empty { result.items ≡ [] }
-        ensures child { self.new.child ≡ self.old.child }
+        ensures nest { self.new.nest ≡ self.old.nest }
     {
         match self.slots.pop() {
             Some(mut slots) => {
@@ -59,7 +87,7 @@ impl Spares {
     /// An empty list of places.
     pub fn places(&mut self, alloc: Global) -> Vec<Position>
         ensures empty { result.items ≡ [] }
-        ensures child { self.new.child ≡ self.old.child }
+        ensures nest { self.new.nest ≡ self.old.nest }
     {
         match self.places.pop() {
             Some(mut places) => {
@@ -73,7 +101,7 @@ impl Spares {
     /// An empty list of instances that wait.
     pub fn waiting(&mut self, alloc: Global) -> Vec<Activation>
         ensures empty { result.items ≡ [] }
-        ensures child { self.new.child ≡ self.old.child }
+        ensures nest { self.new.nest ≡ self.old.nest }
     {
         match self.waiting.pop() {
             Some(mut waiting) => {
@@ -87,7 +115,7 @@ impl Spares {
     /// An empty list for a name.
     pub fn name(&mut self, alloc: Global) -> Vec<usize>
         ensures empty { result.items ≡ [] }
-        ensures child { self.new.child ≡ self.old.child }
+        ensures nest { self.new.nest ≡ self.old.nest }
     {
         match self.names.pop() {
             Some(mut name) => {
@@ -113,7 +141,7 @@ impl Spares {
 
     /// Makes room for the lists of one more spawned child that returns. Where memory is refused for that they will be let go.
     pub fn make_room(&mut self)
-        ensures child { self.new.child ≡ self.old.child }
+        ensures nest { self.new.nest ≡ self.old.nest }
     {
         let _ = self.slots.reserve(1);
         let _ = self.places.reserve(1);

@@ -188,6 +188,16 @@ impl Tally {
         }
     }
 
+    /// Whether the topmost open layer is that of an instance whose name is so long or longer.
+    pub fn owns_from(&self, depth: usize) -> bool
+        ensures none { result ≡ false → (n : ℕ) → depth ≤ n → is_own self.now.opened n ≡ false }
+    {
+        match self.opened.last() {
+            Some(opened) => depth <= opened.depth(),
+            None => false,
+        }
+    }
+
     /// The topmost layer, whose instance is over with that value, becomes a record and goes behind the layer below it. Where
     /// memory is refused, some reducers have moved to the lower layer and the others have not, and nothing else has changed.
     #[inline(always)]

@@ -7,3 +7,4 @@ pub mod Shorts
 pub mod Updates
 pub mod LeavesOpened
 pub mod OwnCalls
+pub mod Calls

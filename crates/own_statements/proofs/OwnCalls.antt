@@ -34,15 +34,15 @@ use Rattle.positions.specs.Setting.{Setting, setting_with}
 use Rattle.positions.specs.Strands.{PlainStrand, entry_by, is_entry, shorter}
 use Rattle.positions.specs.Tallies.{is_own}
 use Rattle.positions.specs.Advance.{advanced, performed, gone_by, evaluated, choosing, giving, moved_on, binding, called, called_as, started_as, pushed, child_of, faulted, closed, owns_top, in_phase}
-use Rattle.own_statements.specs.Paths.{IsNext, IsPath, here, on, topped}
+use Rattle.own_statements.specs.Paths.{HasRoomAbove, IsNext, IsPath, here, on, topped}
 use Rattle.own_statements.specs.declared.recursion.Found.{Found}
 use Rattle.own_statements.specs.declared.recursion.Found.TheVariants.{Nothing, Next, Gave}
-use Rattle.own_statements.specs.Recursion.{HasRoomAbove, deep, begun, standing, Gives, Comes, GivesOf, ReturnsBy, InsideBy, FoundBy, AreValues, laid_over, IsBegun, IsCalled}
+use Rattle.own_statements.specs.Recursion.{deep, begun, standing, Gives, Comes, GivesOf, ReturnsBy, InsideBy, FoundBy, AreValues, laid_over, IsBegun, IsCalled}
 use Rattle.own_statements.proofs.Paths.{path_join}
 
 -- ---- names and layers
 
-path_back : (xs : List ℕ) (x : ℕ) → shorter (xs ++ x ∷ []) ≡ xs
+pub path_back : (xs : List ℕ) (x : ℕ) → shorter (xs ++ x ∷ []) ≡ xs
 path_back xs x =
     let e : length (xs ++ x ∷ []) ≡ length xs + 1 = length-append xs (x ∷ []) in
     let f : length (xs ++ x ∷ []) - 1 ≡ length xs = omega arith in
@@ -144,12 +144,12 @@ module _ (setting : Setting) (f : ℕ) (p : Position) (i : Instruction) (slots :
       (binds setting f left slots p children spawned into m s i found name e v is value)
 
   pub found_sync : i.operation ≡ o.Sync → FoundBy setting f p i slots Next slots
-  found_sync is left children spawned into m s may found = syncs setting f left slots p children spawned into m s i found is (may refl)
+  found_sync is left children spawned into m s may found = syncs setting f left slots p children spawned into m s i found is (may refl).0
 
   pub found_return : (e : Expression) (v : ℤ) (new : List Slot) → i.operation ≡ o.Return e → value_at setting.tables slots (expression e) ≡ pure v → FoundBy setting f p i slots (Gave v) new
   found_return e v new is value left children spawned into m found = record {
     last = standing f left slots p children spawned into;
-    way = λ s may room. returns setting f left slots p children spawned into m s i found e v is value;
+    way = λ s may. returns setting f left slots p children spawned into m s i found e v is value;
   }
 
   pub found_if : (e : Expression) (first second block : ℕ) (v : ℤ) (come : Found) → i.operation ≡ o.If e first second → value_at setting.tables slots (expression e) ≡ pure v
@@ -159,7 +159,7 @@ module _ (setting : Setting) (f : ℕ) (p : Position) (i : Instruction) (slots :
       passes setting f left slots p children spawned into m s i found e first second block v is value chosen h
   found_if e first second block v (Gave u) is value chosen h = λ left children spawned into m found. record {
     last = inside block p (standing f left slots p children spawned into);
-    way = λ s may room. gives_inside setting f left slots p children spawned into m s i found e first second block v is value chosen h.first u h.found h.gives;
+    way = λ s may. gives_inside setting f left slots p children spawned into m s i found e first second block v is value chosen h.first u h.found h.gives;
   }
 
 -- a block that begins with that statement
@@ -171,31 +171,22 @@ begins_with codes ts f block slots i (Gave v) found h = record { first = i; foun
 
 -- ---- a call
 
-positive : (n : ℕ) → (n == 0) ≡ false → 0 < n
-positive zero e = absurd cc
-positive (suc n) e = omega arith
-
 -- an instance's slots, with those arguments
 pub begun_by : (ts : Tables) (slots : List Slot) (size : ℕ) (es : List Linked) (vs : List ℤ) → values_at ts slots es ≡ pure vs → entry_at ts slots size es ≡ pure (slots_for size vs)
 begun_by ts slots size es vs e = ap (mapped (slots_for size)) e
 
 -- a called child of the topmost instance's procedure, which gives a value
-module _ (setting : Setting) (s : PlainStrand) (name : Option ℕ) (w : Work) (f : ℕ) (args : List Slot) (room : HasRoomAbove s.top.left s) (deep_enough : (s.top.left == 0) ≡ false) where
+module _ (setting : Setting) (s : PlainStrand) (name : Option ℕ) (w : Work) (f : ℕ) (args : List Slot) (room : HasRoomAbove s) (deep_enough : (s.top.left == 0) ≡ false) where
   abbrev pub child : PlainActivation
   child = child_of f args s
 
   abbrev pub with_child : PlainStrand
   with_child = pushed child false name w Running s
 
-  some : 0 < s.top.left
-  some = positive s.top.left deep_enough
-
-  above_child : HasRoomAbove (s.top.left - 1) with_child
+  above_child : HasRoomAbove with_child
   above_child = record {
     entry = λ n ns. ap (entry_by s.start) (append_assoc s.path ((s.top.children + 1) ∷ []) (n ∷ ns)) ∙ room.entry (s.top.children + 1) (n ∷ ns);
-    own = λ n ns fewer.
-        let more : length (n ∷ ns) < s.top.left = omega (arith, fewer, some) in
-        ap (λ xs. is_own s.tally.opened (length xs)) (append_assoc s.path ((s.top.children + 1) ∷ []) (n ∷ ns)) ∙ room.own (s.top.children + 1) (n ∷ ns) more;
+    own = λ n ns. ap (λ xs. is_own s.tally.opened (length xs)) (append_assoc s.path ((s.top.children + 1) ∷ []) (n ∷ ns)) ∙ room.own (s.top.children + 1) (n ∷ ns);
   }
 
   module _ (v : ℤ) (k n : PlainLayer) (gives : Gives setting child k v n) where
@@ -208,21 +199,21 @@ module _ (setting : Setting) (s : PlainStrand) (name : Option ℕ) (w : Work) (f
     leaving : IsNext setting returned (topped (Leaving v) gives.last n with_child)
     leaving kit =
         sym (ap (λ c. if c then returned else if owns_top returned then closed setting v returned else in_phase (Leaving v) returned) (room.entry (s.top.children + 1) [])
-        ∙ ap (λ c. if c then closed setting v returned else in_phase (Leaving v) returned) (room.own (s.top.children + 1) [] some))
+        ∙ ap (λ c. if c then closed setting v returned else in_phase (Leaving v) returned) (room.own (s.top.children + 1) []))
 
     left_then : IsNext setting (topped (Leaving v) gives.last n with_child) back
     left_then kit = ap (λ xs. record back { path = xs }) (sym (path_back s.path (s.top.children + 1)))
 
     pub comes_back : IsPath setting (topped Running child k with_child) back
     comes_back =
-        on (topped (Leaving v) gives.last n with_child) back (on returned (topped (Leaving v) gives.last n with_child) (gives.way with_child (λ _. room.entry (s.top.children + 1) []) above_child) leaving) left_then
+        on (topped (Leaving v) gives.last n with_child) back (on returned (topped (Leaving v) gives.last n with_child) (gives.way with_child (λ _. (room.entry (s.top.children + 1) [], above_child))) leaving) left_then
 
 -- the next statement of an instance of a procedure calls another one
 module _ (setting : Setting) (f left : ℕ) (slots : List Slot) (p : Position) (children : ℕ) (spawned : Bool) (into : Option ℕ) (m : PlainLayer) (s : PlainStrand) where
   abbrev pub caller : PlainStrand
   caller = topped Running (standing f left slots p children spawned into) m s
 
-  module _ (name : Option ℕ) (args : List Slot) (room : HasRoomAbove left s) (deep_enough : (left == 0) ≡ false) (v : ℤ) (k n : PlainLayer) (gives : Gives setting (made f args (Block (first_of 0)) (left - 1)) k v n)
+  module _ (name : Option ℕ) (args : List Slot) (room : HasRoomAbove s) (deep_enough : (left == 0) ≡ false) (v : ℤ) (k n : PlainLayer) (gives : Gives setting (made f args (Block (first_of 0)) (left - 1)) k v n)
       (i : Instruction) (es : List Linked) (found : Some i ≡ instruction_inside setting.codes f 0 p) (memo : memo_of setting.codes f ≡ false)
       (enters : (kit : Bool) → performed setting kit p i.number i.operation caller ≡ called setting kit i.number Call name (Block (next_of p)) f es slots caller)
       (value : entry_at setting.tables slots (slots_of setting.codes f) es ≡ pure args) (layer : k ≡ entering f (depth_limit - (left - 1)) m) where
@@ -253,8 +244,8 @@ module _ (setting : Setting) (a : PlainActivation) (start : PlainLayer) (f : ℕ
     children = come.children;
     spawned = come.spawned;
     into = come.into;
-    way = λ s may room. path_join setting (topped Running a start s) (topped Running (standing f a.left slots p come.children come.spawned come.into) m s) (topped Running (standing f a.left new (next_of p) come.children come.spawned come.into) m s)
-        (come.way s may room) (next a.left come.children come.spawned come.into m s may found);
+    way = λ s may. path_join setting (topped Running a start s) (topped Running (standing f a.left slots p come.children come.spawned come.into) m s) (topped Running (standing f a.left new (next_of p) come.children come.spawned come.into) m s)
+        (come.way s may) (next a.left come.children come.spawned come.into m s may found);
   }
 
   pub comes_gave : (v : ℤ) (new : List Slot) → FoundBy setting f p i slots (Gave v) new → Gives setting a start v m
@@ -262,7 +253,7 @@ module _ (setting : Setting) (a : PlainActivation) (start : PlainLayer) (f : ℕ
       let g = gave a.left come.children come.spawned come.into m found in
       record {
         last = g.last;
-        way = λ s may room. path_join setting (topped Running a start s) (topped Running (standing f a.left slots p come.children come.spawned come.into) m s) (topped (Returning v) g.last m s) (come.way s may room) (g.way s may room);
+        way = λ s may. path_join setting (topped Running a start s) (topped Running (standing f a.left slots p come.children come.spawned come.into) m s) (topped (Returning v) g.last m s) (come.way s may) (g.way s may);
       }
 
   pub comes_called : (op : Operation) (name : Option ℕ) (way : Way) (callee : ℕ) (es : List Linked) (args : List Slot) (v : ℤ) (k n : PlainLayer) → i.operation ≡ op
@@ -273,10 +264,10 @@ module _ (setting : Setting) (a : PlainActivation) (start : PlainLayer) (f : ℕ
     children = come.children + 1;
     spawned = false;
     into = name;
-    way = λ s may room.
+    way = λ s may.
         let z = topped Running (standing f a.left slots p come.children come.spawned come.into) m s in
-        path_join setting (topped Running a start s) z (topped Running (standing f a.left (with_slot name (Has v) slots) (next_of p) (come.children + 1) false name) n s) (come.way s may room)
-        (calls_it setting f a.left slots p come.children come.spawned come.into m s name args room deep_enough v k n gives i es found memo
+        path_join setting (topped Running a start s) z (topped Running (standing f a.left (with_slot name (Has v) slots) (next_of p) (come.children + 1) false name) n s) (come.way s may)
+        (calls_it setting f a.left slots p come.children come.spawned come.into m s name args (may refl).1 deep_enough v k n gives i es found memo
         (λ kit. ap (λ x. performed setting kit p i.number x z) is ∙ does kit z ∙ ap (λ c. called setting kit i.number c name (Block (next_of p)) callee es slots z) call ∙ ap (λ g. called setting kit i.number Call name (Block (next_of p)) g es slots z) own)
         value layer);
   }
@@ -287,9 +278,9 @@ comes_over setting a l f slots p m come none =
     let last = record (standing f a.left slots p come.children come.spawned come.into) { work = Over } in
     record {
       last = last;
-      way = λ s may room.
+      way = λ s may.
           on (topped Running last m s) (topped (Returning (pos 0)) last m s)
-          (on (topped Running (standing f a.left slots p come.children come.spawned come.into) m s) (topped Running last m s) (come.way s may room)
+          (on (topped Running (standing f a.left slots p come.children come.spawned come.into) m s) (topped Running last m s) (come.way s may)
           (λ kit. ap (λ x. gone_by setting kit p x (topped Running (standing f a.left slots p come.children come.spawned come.into) m s)) none)) (λ kit. refl);
     }
 

@@ -1,5 +1,5 @@
 -- Many small steps: one behind another.
-use Rattle.std.proofs.Common.{◌≡◌, ℕ, ℤ, pos, Bool, List, [], ◌∷◌, length, nat_lt, if◌then◌else◌, true, false, take, Option, Some, None, Err, refl, sym, ap, ◌∙◌, subst, slice_get}
+use Rattle.std.proofs.Common.{◌≡◌, ◌≤◌, arith, ℕ, ℤ, pos, Bool, List, [], ◌∷◌, length, nat_lt, if◌then◌else◌, true, false, take, Option, Some, None, Err, refl, sym, ap, ◌∙◌, subst, slice_get}
 use Rattle.evaluation.specs.declared.slot.Slot.{Slot}
 use Rattle.evaluation.specs.declared.note.Note.{Note}
 use Rattle.evaluation.specs.declared.stop.Stop.{Stop}
@@ -27,8 +27,10 @@ use Rattle.own_statements.specs.declared.statements.Chosen.TheVariants as chosen
 use Rattle.own_statements.specs.declared.ran.Ran.{Ran}
 use Rattle.own_statements.specs.declared.ran.Ran.TheVariants.{On, Stopped}
 use Rattle.own_statements.specs.declared.ran.Ran.TheVariants as r
-use Rattle.own_statements.specs.Runs.{RunsTo, IsBlock}
-use Rattle.own_statements.specs.Paths.{IsPath, here, on, topped, ComesTo, Chooses, Does}
+use Rattle.own_statements.specs.declared.ran.Ended.{Ended}
+use Rattle.own_statements.specs.declared.ran.Ended.TheVariants as e
+use Rattle.own_statements.specs.Runs.{RunsTo, EndsBy, IsBlock}
+use Rattle.own_statements.specs.Paths.{IsPath, here, on, stacked, topped, ComesTo, StopsBy, Chooses, Does}
 
 -- readings that are forgotten again
 pub forget_noted : (ns : List Note) (l m : PlainLayer) → m ≡ noting ns l → record m { notes = take (length l.notes) m.notes } ≡ l
@@ -98,11 +100,23 @@ module _ (setting : Setting) where
     pub come_join : (b : PlainActivation) (m : PlainLayer) (given : Option ℤ) (c : PlainActivation) (n : PlainLayer) → ComesTo setting passes a l None b m → ComesTo setting passes b m given c n → ComesTo setting passes a l given c n
     come_join b m given c n h k s may = path_join (topped Running a l s) (topped Running b m s) _ (h s may) (k s may)
 
+    -- and one in which it stops under others
+    pub stop_join : (b : PlainActivation) (m : PlainLayer) (k : ℕ) (c : PlainActivation) (ys : List PlainActivation) (n : PlainLayer) → ComesTo setting passes a l None b m → StopsBy setting passes b m k c ys n → StopsBy setting passes a l k c ys n
+    stop_join b m k c ys n h stop = (stop.0, λ s may. path_join (topped Running a l s) (topped Running b m s) (stacked k c ys n s) (h s may) (stop.1 s may))
+
+    -- or under none
+    pub stop_here : (c : PlainActivation) (ys : List PlainActivation) (n : PlainLayer) → ComesTo setting passes a l None c n → StopsBy setting passes a l 0 c ys n
+    stop_here c ys n h = (omega arith, h)
+
     -- and what came of the last one
-    pub run_join : (b : PlainActivation) (m : PlainLayer) (ran : Ran) (c : PlainActivation) (n : PlainLayer) → ComesTo setting passes a l None b m → RunsTo setting passes b m ran c n → RunsTo setting passes a l ran c n
-    run_join b m (On p xs) c n h k = (come_join b m None (at (Block p) c) n h k.0, k.1)
-    run_join b m (r.Gave v) c n h k = come_join b m (Some v) c n h k
-    run_join b m Stopped c n h k = come_join b m None c n h k
+    pub run_join : (b : PlainActivation) (m : PlainLayer) (ran : Ran) (c : PlainActivation) (ys : List PlainActivation) (n : PlainLayer) → ComesTo setting passes a l None b m → RunsTo setting passes b m ran c ys n → RunsTo setting passes a l ran c ys n
+    run_join b m (On p xs) c ys n h k = (come_join b m None (at (Block p) c) n h k.0, k.1)
+    run_join b m (r.Gave v) c ys n h k = come_join b m (Some v) c n h k
+    run_join b m (Stopped k) c ys n h stop = stop_join b m k c ys n h stop
+
+    pub end_join : (b : PlainActivation) (m : PlainLayer) (ended : Ended) (c : PlainActivation) (ys : List PlainActivation) (n : PlainLayer) → ComesTo setting passes a l None b m → EndsBy setting passes b m ended c ys n → EndsBy setting passes a l ended c ys n
+    end_join b m (e.Gave v) c ys n h k = come_join b m (Some v) c n h k
+    end_join b m (e.Stopped k) c ys n h stop = stop_join b m k c ys n h stop
 
     pub come_over : (b : PlainActivation) (m : PlainLayer) → ComesTo setting passes a l None b m → b.work ≡ Over → ComesTo setting passes a l (Some (pos 0)) b m
     come_over b m come over s may = on (topped Running b m s) (topped (Returning (pos 0)) b m s) (come s may) (λ kit. sym (ap (λ w. worked setting kit w (topped Running b m s)) over))

@@ -1,5 +1,5 @@
 -- Many small steps of a strand for which it doesn't matter whether a kit is free.
-use Rattle.std.specs.Prelude.{◌≡◌, ℕ, ℤ, Bool, true, false, List, Option, Some, None, slice_get}
+use Rattle.std.specs.Prelude.{◌≡◌, ◌≤◌, ◌++◌, ◌∷◌, [], ℕ, zero, suc, ℤ, Bool, true, false, List, Option, Some, None, length, slice_get}
 use Rattle.monoid_laws.specs.declared.Kind.{Kind}
 use Rattle.monoid_laws.specs.Kinds.{names_element, arity}
 use Rattle.positions.specs.declared.phase.Phase.{Phase}
@@ -9,7 +9,8 @@ use Rattle.positions.specs.declared.work.Position.{Position}
 use Rattle.positions.specs.declared.work.Work.TheVariants.{Block}
 use Rattle.positions.specs.Activations.{PlainActivation, at, next_of, inside}
 use Rattle.positions.specs.Layers.{PlainLayer, updating}
-use Rattle.positions.specs.Strands.{PlainStrand, is_entry}
+use Rattle.positions.specs.Strands.{PlainStrand, is_entry, entry_by}
+use Rattle.positions.specs.Tallies.{is_own}
 use Rattle.positions.specs.Advance.{advanced}
 use Rattle.own_statements.specs.declared.statements.Did.{Did}
 use Rattle.own_statements.specs.declared.statements.Did.TheVariants.{Nothing, Next, Moved, Gave}
@@ -36,13 +37,28 @@ abbrev pub phase_by : Option ℤ → Phase
 phase_by None = Running
 phase_by (Some v) = Returning v
 
--- in the instance in which a strand begins no sync is passed
-abbrev pub MayPass : Bool → PlainStrand → Type 0
-MayPass passes s = passes ≡ true → is_entry s ≡ false
+-- no instance above the topmost one begins the strand or owns the topmost layer
+pub record HasRoomAbove (s : PlainStrand) : Type 0 where
+  pub entry : (n : ℕ) (ns : List ℕ) → entry_by s.start (s.path ++ n ∷ ns) ≡ false
+  pub own : (n : ℕ) (ns : List ℕ) → is_own s.tally.opened (length (s.path ++ n ∷ ns)) ≡ false
 
--- the instance comes so far in any strand, where syncs may be passed
+-- syncs may be passed, and others called: the strand begins neither in the topmost instance nor above it
+abbrev pub MayPass : Bool → PlainStrand → Type 0
+MayPass passes s = passes ≡ true → (is_entry s ≡ false) × HasRoomAbove s
+
+-- the instance comes so far in any strand, where syncs may be passed so
 abbrev pub ComesTo : Setting → Bool → PlainActivation → PlainLayer → Option ℤ → PlainActivation → PlainLayer → Type 0
 ComesTo setting passes a l given b m = (s : PlainStrand) → MayPass passes s → IsPath setting (topped Running a l s) (topped (phase_by given) b m s)
+
+-- so many instances stand above one, each of which has called the next one and waits for it
+pub stacked : ℕ → PlainActivation → List PlainActivation → PlainLayer → PlainStrand → PlainStrand
+stacked zero b xs m s = topped Running b m s
+stacked (suc n) b [] m s = topped Running b m s
+stacked (suc n) b (x ∷ xs) m s = stacked n x xs m (record s { path = s.path ++ b.children ∷ []; below = b ∷ s.below })
+
+-- the instance comes so far that it waits under so many others, where syncs may be passed so
+abbrev pub StopsBy : Setting → Bool → PlainActivation → PlainLayer → ℕ → PlainActivation → List PlainActivation → PlainLayer → Type 0
+StopsBy setting passes a l n b xs m = (n ≤ length xs) × ((s : PlainStrand) → MayPass passes s → IsPath setting (topped Running a l s) (stacked n b xs m s))
 
 -- the same procedure, and as many blocks around
 abbrev pub IsInBlock : PlainActivation → PlainActivation → Type 0

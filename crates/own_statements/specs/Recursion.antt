@@ -23,16 +23,10 @@ use Rattle.positions.specs.Activations.{PlainActivation, next_of, first_of, made
 use Rattle.positions.specs.Code.{instruction_inside}
 use Rattle.positions.specs.Layers.{PlainLayer, entering}
 use Rattle.positions.specs.Setting.{Setting, setting_with}
-use Rattle.positions.specs.Strands.{PlainStrand, entry_by}
-use Rattle.positions.specs.Tallies.{is_own}
+use Rattle.positions.specs.Strands.{PlainStrand}
 use Rattle.own_statements.specs.Paths.{IsPath, MayPass, topped}
 use Rattle.own_statements.specs.declared.recursion.Found.{Found}
 use Rattle.own_statements.specs.declared.recursion.Found.TheVariants.{Nothing, Next, Gave}
-
--- no instance above the topmost one, of so many levels, begins the strand or owns the topmost layer
-pub record HasRoomAbove (left : ℕ) (s : PlainStrand) : Type 0 where
-  pub entry : (n : ℕ) (ns : List ℕ) → entry_by s.start (s.path ++ n ∷ ns) ≡ false
-  pub own : (n : ℕ) (ns : List ℕ) → length ns < left → is_own s.tally.opened (length (s.path ++ n ∷ ns)) ≡ false
 
 -- instances of a procedure were entered, one of them with so many levels below it and none with fewer
 abbrev pub deep : ℕ → ℕ → PlainLayer → PlainLayer
@@ -50,14 +44,14 @@ begun f left slots = made f slots (Block (first_of 0)) left
 -- from that instance over that layer small steps lead to that value over another layer
 pub record Gives (setting : Setting) (a : PlainActivation) (l : PlainLayer) (v : ℤ) (m : PlainLayer) : Type 0 where
   pub last : PlainActivation
-  pub way : (s : PlainStrand) → MayPass true s → HasRoomAbove a.left s → IsPath setting (topped Running a l s) (topped (Returning v) last m s)
+  pub way : (s : PlainStrand) → MayPass true s → IsPath setting (topped Running a l s) (topped (Returning v) last m s)
 
 -- and to that position of the body, with those slots
 pub record Comes (setting : Setting) (a : PlainActivation) (l : PlainLayer) (f : ℕ) (slots : List Slot) (p : Position) (m : PlainLayer) : Type 0 where
   pub children : ℕ
   pub spawned : Bool
   pub into : Option ℕ
-  pub way : (s : PlainStrand) → MayPass true s → HasRoomAbove a.left s
+  pub way : (s : PlainStrand) → MayPass true s
       → IsPath setting (topped Running a l s) (topped Running (standing f a.left slots p children spawned into) m s)
 
 -- ---- statements

@@ -14,8 +14,9 @@ ghost use Rattle.own_statements.specs.Paths.{ComesTo};
 ghost use Rattle.own_statements.specs.Runs.{IsBody};
 ghost use Rattle.own_statements.specs.Leaves.{IsLeaf, opened_by, plain_leaf};
 
-use crate::runs::call;
-use activations::activation::Activation;
+use crate::ran::Ended;
+use crate::runs::{Callee, call};
+use activations::nest::Nest;
 use activations::setting::Setting;
 use layers::layer::Layer;
 use layers::recording::Opened;
@@ -43,28 +44,35 @@ fn value_of<V: View>(
     own: &mut Layer<V>,
     setting: Setting<'_>,
     leaf: Leaf<'_>,
-    child: &mut Activation,
+    nest: &mut Nest,
     numbers: &mut Vec<i64>,
 ) -> Option<i64>
     requires body { IsBody setting.program.now.codes leaf.callee leaf.body.now }
     requires kinds { own.old.kinds ≡ setting.program.now.kinds }
     ensures came { IfSome result (λ v. ComesTo (lent setting.entry) true
         (made leaf.entry.callee (slots_for leaf.entry.size (leaf.entry.number ∷ [])) (Block (first_of 0)) leaf.entry.left)
-        (entering leaf.entry.callee (depth_limit - leaf.entry.left) own.old) (Some v) child.new own.new) }
+        (entering leaf.entry.callee (depth_limit - leaf.entry.left) own.old) (Some v) nest.new.child own.new) }
     ensures kinds { own.new.kinds ≡ own.old.kinds }
 {
-    if !child.put_number(leaf.size, leaf.number) {
+    if !nest.child.put_number(leaf.size, leaf.number) {
         return None;
     }
-    call(
+    let callee = Callee {
+        procedure: leaf.callee,
+        body: leaf.body,
+        left: leaf.left,
+    };
+    match call(
         own,
         setting,
-        leaf.body,
-        leaf.callee,
-        leaf.left,
-        child,
+        callee,
+        &mut nest.child,
+        &mut nest.above,
         numbers,
-    )
+    ) {
+        Ended::Gave(value) => Some(value),
+        Ended::Stopped(_) => None,
+    }
 }
 
 /// An iteration is over with that value: its layer becomes a record and goes onto the loop's. Whether that was done; where it wasn't,
@@ -110,7 +118,7 @@ pub(crate) fn record_in<V: View>(
     tally: &mut Tally,
     setting: Setting<'_>,
     leaf: Leaf<'_>,
-    child: &mut Activation,
+    nest: &mut Nest,
     numbers: &mut Vec<i64>,
 ) -> Result<bool, AllocError>
     requires body { IsBody setting.program.now.codes leaf.callee leaf.body.now }
@@ -130,7 +138,7 @@ pub(crate) fn record_in<V: View>(
         → HaveValues setting.entry.program.now.kinds tally.new.made }
 {
     let alloc = *numbers.allocator();
-    let Some(value) = value_of(own, setting, leaf, child, numbers) else {
+    let Some(value) = value_of(own, setting, leaf, nest, numbers) else {
         return Ok(false);
     };
     match close(own, layer, tally, alloc, setting.program, leaf, value) {

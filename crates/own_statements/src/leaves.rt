@@ -8,7 +8,7 @@ ghost use Rattle.own_statements.specs.Leaves.{AreLeaves, AreUnknown, leaf_behind
 ghost use Rattle.own_statements.specs.Runs.{IsBody};
 
 use crate::leaf::{Leaf, record_in};
-use activations::activation::Activation;
+use activations::nest::Nest;
 use activations::setting::Setting;
 use layers::layer::Layer;
 use layers::tally::Tally;
@@ -32,7 +32,7 @@ pub fn record_each<V: View>(
     tally: &mut Tally,
     setting: Setting<'_>,
     leaves: Leaves<'_>,
-    child: &mut Activation,
+    nest: &mut Nest,
     numbers: &mut Vec<i64>,
 ) -> Result<(u32, bool), AllocError>
     requires body { IsBody setting.program.now.codes leaves.first.callee leaves.first.body.now }
@@ -55,7 +55,7 @@ pub fn record_each<V: View>(
     let count = setting.program.codes().len();
     for done in 0..most {
         match behind(first, done) {
-            Some(leaf) => match record_in(own, layer, tally, setting, leaf, child, numbers) {
+            Some(leaf) => match record_in(own, layer, tally, setting, leaf, nest, numbers) {
                 Ok(true) => {
                     if own.renew(true, count).is_err() {
                         return Ok((done + 1, false));

@@ -122,7 +122,7 @@ pub struct Enters<'a> {
 
 /// Whether an instance that is entered so is spawned.
 #[inline(always)]
-fn is_spawn(way: Way) -> bool
+pub(crate) fn is_spawn(way: Way) -> bool
     ensures call { result ≡ false → way ≡ Way.Call }
 {
     match way {

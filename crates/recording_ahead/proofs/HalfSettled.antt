@@ -19,7 +19,7 @@ module _ (setting : Setting) (l : Loop) (k : ℕ) (h : Share) (g n : ℕ) (s t i
     (same_path : i.path ≡ path) (same_below : i.below ≡ below) (over : Bool) (b : PlainActivation) (xs ys : List ℤ) (arguments : ys ≡ xs)
     (half : (x y : Gathered) → g ≡ (loop_at setting.codes i.top.procedure l).grain → is_by_turns setting.codes i.top l k h.count ≡ false → AreRecorded setting l i.top.procedure i.top.slots i.top.left h.first x n y
     → HalfRecords setting over i.top x path below b y new now) where
-  pub half_settled : s.phase ≡ Running → IsClear 9 s → g ≡ (loop_at setting.codes s.top.procedure l).grain → is_by_turns setting.codes s.top l k h.count ≡ false
+  pub half_settled : s.phase ≡ Running → IsClear s → g ≡ (loop_at setting.codes s.top.procedure l).grain → is_by_turns setting.codes s.top l k h.count ≡ false
       → AreRecorded setting l s.top.procedure s.top.slots s.top.left h.first (gathered_of s s.arguments) n (gathered_of t xs)
       → IsRecordedAhead setting s (record i { path = new; top = b; below = now; phase = half_phase over; arguments = ys })
   half_settled running clear grain halved those =

@@ -1,5 +1,7 @@
 -- One iteration that is recorded at once, as small steps of the strand.
-use Rattle.std.proofs.Common.{◌≡◌, ◌∙◌, ℕ, zero, suc, ◌-◌, ◌+◌, ◌==◌, ℤ, pos, ◌+ℤ◌, true, false, if◌then◌else◌, List, [], ◌∷◌, length, Option, None, map, refl, sym, ap, subst, eq-eqb}
+use Rattle.std.proofs.Common.{◌≡◌, ◌∙◌, ℕ, zero, suc, ◌-◌, ◌+◌, ◌<◌, ◌==◌, ◌++◌, arith, append_assoc, ℤ, pos, ◌+ℤ◌, true, false, if◌then◌else◌, List, [], ◌∷◌, length, Option, None, map, refl, sym, ap, subst, eq-eqb}
+use Rattle.std.proofs.lemmas.Bool.Decides.{nat_tests}
+use Rattle.std.proofs.lemmas.List.{length-append}
 use Rattle.meaning.specs.declared.tree.Way.TheVariants.{Call}
 use Rattle.meaning.specs.Elision.{depth_limit}
 use Rattle.linked_program.specs.CodeView.{expression, memo_of, slots_of}
@@ -16,11 +18,11 @@ use Rattle.positions.specs.Activations.{PlainActivation, waiting}
 use Rattle.positions.specs.Code.{PlainLoop, loop_at}
 use Rattle.positions.specs.Layers.{PlainLayer, covered}
 use Rattle.positions.specs.Setting.{Setting}
-use Rattle.positions.specs.Strands.{PlainStrand, is_entry}
+use Rattle.positions.specs.Strands.{PlainStrand, entry_by, is_entry}
 use Rattle.positions.specs.Tallies.{PlainOpened, PlainTally, opening, closing}
 use Rattle.positions.specs.Advance.{advanced, record_for, answer_for, recalled, opened, opened_of, pushed, child_of, with_arguments, nested_memo, turn_slots, rest_of, closed, owns_top, in_phase}
 use Rattle.own_statements.specs.Fills.{IsCounted}
-use Rattle.own_statements.specs.Paths.{topped}
+use Rattle.own_statements.specs.Paths.{HasRoomAbove, topped}
 use Rattle.small_steps.proofs.Nesting.{evaluated_some, nested_call, called_memo, turned_more}
 use Rattle.small_steps.proofs.Refusals.{path_back}
 use Rattle.small_steps.proofs.Turns.{number_taken}
@@ -85,10 +87,20 @@ module _ (setting : Setting) (site : Loop) (h : Share) (j : PlainLoop) (a : Plai
       returned = topped (Returning leaf.value) leaf.child leaf.own under
 
       entry : is_entry returned ≡ false
-      entry = amid (a.children + 1)
+      entry = amid (a.children + 1) []
 
       own : owns_top returned ≡ true
       own = eq-eqb (length called.path) (length called.path) refl
+
+      -- no instance above it begins the strand, or owns its layer
+      above : HasRoomAbove under
+      above = record {
+        entry = λ n ns. ap (entry_by s.start) (append_assoc s.path ((a.children + 1) ∷ []) (n ∷ ns)) ∙ amid (a.children + 1) (n ∷ ns);
+        own = λ n ns.
+            let longer : length (called.path ++ n ∷ ns) ≡ length called.path + length (n ∷ ns) = length-append called.path (n ∷ ns) in
+            let other : length called.path < length (called.path ++ n ∷ ns) = omega (arith, longer) in
+            grind (arith, nat_tests, other);
+      }
 
       closes : closed setting leaf.value returned ≡ advanced setting true returned
       closes =
@@ -109,7 +121,7 @@ module _ (setting : Setting) (site : Loop) (h : Share) (j : PlainLoop) (a : Plai
       pub leaf_steps : IsStepped setting before (with_turns on_turn m u (number_here ∷ []) s)
       leaf_steps =
           let begun : IsStepped setting before (opened setting called) = on before (opened setting called) here (begins leaf.unknown) in
-          let run : IsStepped setting (opened setting called) returned = steps_of setting (opened setting called) returned (leaf.came under (λ _. entry)) in
+          let run : IsStepped setting (opened setting called) returned = steps_of setting (opened setting called) returned (leaf.came under (λ _. (entry, above))) in
           let ended : IsStepped setting before returned = steps_join setting before (opened setting called) returned begun run in
           let over : IsStepped setting before after = on (closed setting leaf.value returned) after (on returned (closed setting leaf.value returned) ended closes) leaves in
           subst (λ (z : PlainStrand). IsStepped setting before z) is_after over

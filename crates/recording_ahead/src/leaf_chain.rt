@@ -9,7 +9,7 @@ ghost use Rattle.own_statements.specs.Runs.{IsBody};
 ghost use Rattle.running_ahead.specs.Leaves.{IsRefusedLeaf};
 ghost use Rattle.recording_ahead.specs.AnsweredChains.{IsOwn};
 
-use activations::activation::Activation;
+use activations::nest::Nest;
 use activations::setting::Setting;
 use layers::layer::Layer;
 use layers::tally::Tally;
@@ -70,7 +70,7 @@ pub(crate) fn record_chain<V: View>(
         &mut machine.tally,
         setting,
         Leaves { first, most },
-        &mut machine.spares.child,
+        &mut machine.spares.nest,
         &mut machine.numbers,
     );
     match recorded {
@@ -91,7 +91,7 @@ fn record_own<V: View>(
     tally: &mut Tally,
     setting: Setting<'_>,
     leaves: Leaves<'_>,
-    child: &mut Activation,
+    nest: &mut Nest,
     numbers: &mut Vec<i64>,
 ) -> Result<(u32, bool), AllocError>
     requires body { IsBody setting.program.now.codes leaves.first.callee leaves.first.body.now }
@@ -111,7 +111,7 @@ fn record_own<V: View>(
         → HaveValues setting.entry.program.now.kinds tally.new.made }
 {
     match own {
-        Some(own) => record_each(own, layer, tally, setting, leaves, child, numbers),
+        Some(own) => record_each(own, layer, tally, setting, leaves, nest, numbers),
         None => Ok((0, false)),
     }
 }

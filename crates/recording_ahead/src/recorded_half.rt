@@ -105,7 +105,7 @@ fn levels_of<V: View>(
     ensures counted { OnSome result (IsCounted machine.now.top.slots code.entry.variable (map plain code.entry.arguments.now)) }
     ensures deep { OnSome result ((machine.now.top.left == 0) ≡ false) }
     ensures children { OnSome result (machine.now.top.children + 1024 < 2 ^ 64) }
-    ensures clear { OnSome result (IsClear 9 machine.now) }
+    ensures clear { OnSome result (IsClear machine.now) }
     ensures fewer { OnSome result (part.share.count ≤ 256) }
     ensures reached { IfSome result (λ n. part.share.count ≤ reach n part.grain) }
     ensures few { IfSome result (λ n. n ≤ 8) }
@@ -164,7 +164,7 @@ fn record_part<V: View, K: KitSource<Kit<V>>>(
     requires counted { IsCounted machine.old.top.slots code.variable (map plain code.arguments.now) }
     requires deep { (machine.old.top.left == 0) ≡ false }
     requires children { machine.old.top.children + 1024 < 2 ^ 64 }
-    requires clear { IsClear 9 machine.old }
+    requires clear { IsClear machine.old }
     requires few { ready.part.share.count ≤ 256 }
     requires halved { length ready.copies.items ≤ ready.part.halvings }
     requires reached { ready.part.share.count ≤ reach (length ready.copies.items) ready.part.grain }
@@ -219,7 +219,7 @@ fn settle_half<V: View>(
     requires copies { All (λ v. v.items ≡ machine.old.top.slots) ready.copies.items }
     ensures settled { OnOk result ((setting : PlainSetting) (s : PlainStrand)
         → machine.old ≡ record s { layer = machine.old.layer; tally = machine.old.tally }
-        → IsClear 9 s
+        → IsClear s
         → ready.part.grain ≡ (loop_at setting.codes s.top.procedure ready.part.site).grain
         → is_by_turns setting.codes s.top ready.part.site ready.part.halvings ready.part.share.count ≡ false
         → AreRecorded setting ready.part.site s.top.procedure s.top.slots s.top.left ready.part.share.first

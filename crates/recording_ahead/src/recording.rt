@@ -132,14 +132,14 @@ fn stretch_of<V: View>(
     Some(Stretch { site, share, most })
 }
 
-/// Whether the strand begins in a child of the topmost instance.
+/// Whether the strand begins above the topmost instance.
 #[inline(always)]
 fn begins_inside<V: View>(machine: &Machine<V>) -> bool
     ensures amid { result ≡ false → IsAmid machine.now }
 {
     match machine.start {
         Start::Root => false,
-        Start::Behind { depth, child: _ } => depth == machine.path.len() + 1,
+        Start::Behind { depth, child: _ } => depth > machine.path.len(),
     }
 }
 

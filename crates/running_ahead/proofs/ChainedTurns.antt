@@ -10,8 +10,8 @@ use Rattle.positions.specs.Activations.{PlainActivation}
 use Rattle.positions.specs.Layers.{PlainLayer}
 use Rattle.positions.specs.Strands.{PlainStrand}
 use Rattle.activations.specs.Turned.{behind, turned_by}
-use Rattle.own_statements.specs.Paths.{topped}
-use Rattle.running_ahead.specs.Ahead.{IsAhead, ComeBack, TurnsOn, topped_child}
+use Rattle.own_statements.specs.Paths.{HasRoomAbove, stacked, topped}
+use Rattle.running_ahead.specs.Ahead.{IsAhead, TurnsOn}
 use Rattle.running_ahead.specs.Chains.{IsTurn, AreTurns, IsWithin, none, more}
 use Rattle.running_ahead.proofs.Paths.{ahead_here, ahead_join}
 use Rattle.running_ahead.proofs.Turned.{next_turn, turns_there, turns_left, turns_procedure, turns_slots, more_behind}
@@ -46,12 +46,12 @@ chained_turns setting l h a u (suc n) w (more m v x before turn) there fits s ho
     (subst (λ (z : PlainActivation). IsAhead setting (topped Running b v s) (topped Running z w s)) (next_turn n l h a)
     (turn b (behind n h) (turns_procedure n l h a) (turns_slots n l h a) (turns_left n l h a) (turns_there n l h a there) refl (more_behind n h less) s home))
 
--- the next one stands on top of it
-pub chained_stay : (setting : Setting) (l : Loop) (h : Share) (a : PlainActivation) (u : PlainLayer) (n : ℕ) (child : PlainActivation) (v : PlainLayer) → IsWithin setting l a.procedure a.slots a.left h.first n u child v → a.work ≡ Turns l h → n < h.count
-    → (s : PlainStrand) → ComeBack s → IsAhead setting (topped Running a u s) (topped_child child (turned_by (suc n) l h a) v s)
-chained_stay setting l h a u n child v within there less s home =
+-- the next one stands above it
+pub chained_stay : (setting : Setting) (l : Loop) (h : Share) (a : PlainActivation) (u : PlainLayer) (n k : ℕ) (xs : List PlainActivation) (v : PlainLayer) → IsWithin setting l a.procedure a.slots a.left h.first n k u xs v → a.work ≡ Turns l h → n < h.count
+    → (s : PlainStrand) → HasRoomAbove s → IsAhead setting (topped Running a u s) (stacked (suc k) (turned_by (suc n) l h a) xs v s)
+chained_stay setting l h a u n k xs v within there less s home =
     let few : n ≤ h.count = omega (arith, less) in
     let b = turned_by n l h a in
-    ahead_join setting (topped Running a u s) (topped Running b within.before s) (topped_child child (turned_by (suc n) l h a) v s) (chained_turns setting l h a u n within.before within.turns there few s home)
-    (subst (λ (z : PlainActivation). IsAhead setting (topped Running b within.before s) (topped_child child z v s)) (next_turn n l h a)
+    ahead_join setting (topped Running a u s) (topped Running b within.before s) (stacked (suc k) (turned_by (suc n) l h a) xs v s) (chained_turns setting l h a u n within.before within.turns there few s home)
+    (subst (λ (z : PlainActivation). IsAhead setting (topped Running b within.before s) (stacked (suc k) z xs v s)) (next_turn n l h a)
     (within.stay b (behind n h) (turns_procedure n l h a) (turns_slots n l h a) (turns_left n l h a) (turns_there n l h a there) refl (more_behind n h less) s home))

@@ -1,10 +1,11 @@
 -- Iterations of a loop: one of them as small steps of the strand.
-use Rattle.std.proofs.Common.{◌≡◌, ◌-◌, ◌==◌, ℤ, pos, ◌+ℤ◌, ◌+◌, Bool, true, false, List, Some, None, map, slice_set, refl, sym, ap, subst, ◌∙◌, ℕ}
+use Rattle.std.proofs.Common.{◌≡◌, ◌++◌, ◌∷◌, [], zero, suc, ◌-◌, ◌==◌, ℤ, pos, ◌+ℤ◌, ◌+◌, Bool, true, false, List, Some, None, map, slice_set, refl, sym, ap, subst, ◌∙◌, ℕ}
 use Rattle.meaning.specs.Elision.{depth_limit}
 use Rattle.linked_program.specs.CodeView.{expression, memo_of, slots_of}
 use Rattle.evaluation.specs.declared.slot.Slot.{Slot}
 use Rattle.evaluation.specs.declared.slot.Slot.TheVariants.{Has}
 use Rattle.evaluation.specs.Values.{NumberedOut, entry_at}
+use Rattle.positions.specs.declared.phase.Phase.{Phase}
 use Rattle.positions.specs.declared.phase.Phase.TheVariants.{Running}
 use Rattle.positions.specs.declared.work.Loop.{Loop}
 use Rattle.positions.specs.declared.work.Share.{Share}
@@ -16,13 +17,20 @@ use Rattle.positions.specs.Setting.{Setting}
 use Rattle.positions.specs.Strands.{PlainStrand}
 use Rattle.positions.specs.Advance.{advanced, evaluated, turn_slots, rest_of}
 use Rattle.own_statements.specs.Fills.{Fills}
-use Rattle.own_statements.specs.Paths.{topped, ComesTo}
+use Rattle.own_statements.specs.Paths.{ComesTo, HasRoomAbove, MayPass, StopsBy, stacked, topped}
 use Rattle.small_steps.specs.Steps.{nested_plain}
 use Rattle.small_steps.proofs.Nesting.{turned_more}
 use Rattle.meaning.specs.declared.tree.Way.TheVariants.{Call}
-use Rattle.running_ahead.specs.Ahead.{IsAhead, ComeBack, TurnsOn, topped_child}
+use Rattle.running_ahead.specs.Ahead.{IsAhead, TurnsOn}
 use Rattle.running_ahead.specs.Chains.{IsTurn, IsStay}
-use Rattle.running_ahead.proofs.Paths.{called_plain, turned_next, enter_ahead, child_returns, child_stays}
+use Rattle.running_ahead.proofs.OwnAhead.{room_over}
+use Rattle.running_ahead.proofs.Paths.{with_child, called_plain, turned_next, enter_ahead, child_returns, child_stays}
+
+-- where others stand above an instance, what it has had on top before doesn't matter
+pub stacked_same : (k : ℕ) (b : PlainActivation) (ys : List PlainActivation) (m : PlainLayer) (s : PlainStrand) (a : PlainActivation) (l : PlainLayer) (f : Phase) → stacked k b ys m s ≡ stacked k b ys m (topped f a l s)
+stacked_same zero b ys m s a l f = refl
+stacked_same (suc k) b [] m s a l f = refl
+stacked_same (suc k) b (y ∷ ys) m s a l f = stacked_same k y ys m (record s { path = s.path ++ b.children ∷ []; below = b ∷ s.below }) a l f
 
 module _ (setting : Setting) (site : Loop) (h : Share) (j : PlainLoop) (a : PlainActivation) (l : PlainLayer) where
   -- the instance that has called the next iteration
@@ -47,6 +55,10 @@ module _ (setting : Setting) (site : Loop) (h : Share) (j : PlainLoop) (a : Plai
         called_plain setting kit j.number Call None (Turns site (rest_of h)) j.callee (map expression j.arguments) (turn_slots j site h x) x memo
         ∙ turned_more setting kit site h x j more found ∙ turned_next setting kit site h x refl there
 
+    -- the iteration may pass syncs, and call others
+    may_child : (s : PlainStrand) → HasRoomAbove s → MayPass true (with_child setting Call None (Turns site (rest_of h)) j.callee slots (record (topped Running a l s) { layer = m }))
+    may_child s home = λ _. (home.entry (a.children + 1) [], let u = with_child setting Call None (Turns site (rest_of h)) j.callee slots (record (topped Running a l s) { layer = m }) in room_over (a.children + 1) s home u.top u.layer u.phase u.below)
+
     pub turn_back : (v : ℤ) → ComesTo setting true iteration layer_then (Some v) b n → TurnsOn setting a l on_turn n
     turn_back v come s home =
         let x = topped Running a l s in
@@ -54,17 +66,19 @@ module _ (setting : Setting) (site : Loop) (h : Share) (j : PlainLoop) (a : Plai
         let w = Turns site (rest_of h) in
         let t = topped Running on_turn n s in
         enter_ahead setting j.number turn_entry Call None w j.callee slots x y t filled.0 (ap (λ (k : PlainLayer). record x { layer = k }) filled.1)
-        (child_returns setting Call None w j.callee slots y j.number deep memo b n kinds v (home.entry (a.children + 1)) (home.own (a.children + 1)) t come refl)
+        (child_returns setting Call None w j.callee slots y j.number deep memo b n kinds v (home.entry (a.children + 1) []) (home.own (a.children + 1) []) t (may_child s home) come refl)
         (next s)
 
-    pub turn_stays : ComesTo setting true iteration layer_then None b n → (s : PlainStrand) → ComeBack s → IsAhead setting (topped Running a l s) (topped_child b on_turn n s)
-    turn_stays come s home =
+    pub turn_stays : (k : ℕ) (ys : List PlainActivation) → StopsBy setting true iteration layer_then k b ys n → (s : PlainStrand) → HasRoomAbove s → IsAhead setting (topped Running a l s) (stacked (suc k) on_turn (b ∷ ys) n s)
+    turn_stays k ys stop s home =
         let x = topped Running a l s in
         let y = record x { layer = m } in
         let w = Turns site (rest_of h) in
-        let t = topped_child b on_turn n s in
+        let t = stacked (suc k) on_turn (b ∷ ys) n s in
+        let u = with_child setting Call None w j.callee slots y in
+        let same : t ≡ stacked k b ys n u = stacked_same k b ys n (record s { path = s.path ++ on_turn.children ∷ []; below = on_turn ∷ s.below }) u.top u.layer u.phase in
         enter_ahead setting j.number turn_entry Call None w j.callee slots x y t filled.0 (ap (λ (k : PlainLayer). record x { layer = k }) filled.1)
-        (child_stays setting Call None w j.callee slots y j.number deep memo b n kinds t (λ u. home.entry (a.children + 1)) come refl)
+        (child_stays setting Call None w j.callee slots y j.number deep memo b n kinds k ys t (may_child s home) stop same)
         (next s)
 
 -- ---- whatever instance of the loop calls it
@@ -98,12 +112,13 @@ module _ (setting : Setting) (site : Loop) (j : PlainLoop) (p : ℕ) (before : L
       goes_back v come =
           turn_back setting site h j a u there more found_here memo deep_here slots m n b filled_here kinds v (subst (λ (k : ℕ). ComesTo setting true (begun_in k) (entered_in k) (Some v) b n) (sym levels) come)
 
-      stays_there : ComesTo setting true (begun_in left) (entered_in left) None b n → (s : PlainStrand) → ComeBack s → IsAhead setting (topped Running a u s) (topped_child b (waiting false None (Turns site (rest_of h)) a) n s)
-      stays_there come =
-          turn_stays setting site h j a u there more found_here memo deep_here slots m n b filled_here kinds (subst (λ (k : ℕ). ComesTo setting true (begun_in k) (entered_in k) None b n) (sym levels) come)
+      stays_there : (o : ℕ) (ys : List PlainActivation) → StopsBy setting true (begun_in left) (entered_in left) o b ys n → (s : PlainStrand) → HasRoomAbove s
+          → IsAhead setting (topped Running a u s) (stacked (suc o) (waiting false None (Turns site (rest_of h)) a) (b ∷ ys) n s)
+      stays_there o ys stop =
+          turn_stays setting site h j a u there more found_here memo deep_here slots m n b filled_here kinds o ys (subst (λ (k : ℕ). StopsBy setting true (begun_in k) (entered_in k) o b ys n) (sym levels) stop)
 
     pub is_turn : (v : ℤ) → ComesTo setting true (begun_in left) (entered_in left) (Some v) b n → IsTurn setting site p before left i u n
     is_turn v come a h procedure same levels there first more = goes_back a h procedure same levels there first more v come
 
-    pub is_stay : ComesTo setting true (begun_in left) (entered_in left) None b n → IsStay setting site p before left i u b n
-    is_stay come a h procedure same levels there first more = stays_there a h procedure same levels there first more come
+    pub is_stay : (o : ℕ) (ys : List PlainActivation) → StopsBy setting true (begun_in left) (entered_in left) o b ys n → IsStay setting site p before left i u o (b ∷ ys) n
+    is_stay o ys stop a h procedure same levels there first more = stays_there a h procedure same levels there first more o ys stop

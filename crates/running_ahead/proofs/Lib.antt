@@ -1,4 +1,5 @@
 pub mod Paths
+pub mod Putting
 pub mod Iterations
 pub mod Halving
 pub mod Turned

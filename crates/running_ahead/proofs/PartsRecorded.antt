@@ -19,13 +19,13 @@ use Rattle.running_ahead.specs.RecordedHalves.{halves_gathered, Arrives, HalfRec
 use Rattle.running_ahead.proofs.Halving.{turns_ahead}
 use Rattle.running_ahead.proofs.Stepping.{steps_join, steps_ahead}
 use Rattle.running_ahead.proofs.ChainedHalves.{clear_above, grain_of, child_of_half, under_first, under_second, to_first, by_turns}
-use Rattle.running_ahead.proofs.Stacked.{clear_less, not_by_turns}
+use Rattle.running_ahead.proofs.Stacked.{not_by_turns}
 use Rattle.running_ahead.proofs.RecordedTurns.{AreRecordedAt, recorded_parted, clear_then, clear_amid, recorded_turns}
 use Rattle.running_ahead.proofs.HalvesRecorded.{all_recorded, second_begins}
 
 module _ (setting : Setting) (l : Loop) where
   -- the half isn't halved
-  pub stays_recorded : (r k : ℕ) (h : Share) (a : PlainActivation) (s : PlainStrand) (x y : Gathered) (n : ℕ) → IsClear (suc r) (gathering x s) → AreRecorded setting l a.procedure a.slots a.left h.first x n y
+  pub stays_recorded : (r k : ℕ) (h : Share) (a : PlainActivation) (s : PlainStrand) (x y : Gathered) (n : ℕ) → IsClear (gathering x s) → AreRecorded setting l a.procedure a.slots a.left h.first x n y
       → Arrives setting l r s k h a x y s.path s.below n k h a n
   stays_recorded r k h a s x y n clear those = record {
     between = x;
@@ -38,7 +38,7 @@ module _ (setting : Setting) (l : Loop) where
     left = refl;
   }
 
-  module _ (r k : ℕ) (h : Share) (a : PlainActivation) (s : PlainStrand) (x y : Gathered) (n : ℕ) (clear : IsClear (suc (suc r)) (gathering x s)) (fits : h.count ≤ reach (suc r) (grain_of setting l a)) (halved : grain_of setting l a < h.count)
+  module _ (r k : ℕ) (h : Share) (a : PlainActivation) (s : PlainStrand) (x y : Gathered) (n : ℕ) (clear : IsClear (gathering x s)) (fits : h.count ≤ reach (suc r) (grain_of setting l a)) (halved : grain_of setting l a < h.count)
       (those : AreRecorded setting l a.procedure a.slots a.left h.first x n y) where
     abbrev many : is_by_turns setting.codes a l (suc k) h.count ≡ false
     many = not_by_turns k h.count (grain_of setting l a) halved
@@ -50,7 +50,7 @@ module _ (setting : Setting) (l : Loop) where
       steps = steps_ahead setting (halves_gathered l (suc k) h a x s) (halves_gathered l k (left_of h) (child_of_half setting l k (left_of h) a) x (under (s.path ++ (a.children + 1) ∷ []) (under_first setting l k h a ∷ s.below) s))
           (to_first setting l k h a x.layer (gathering x s) many);
       turns = those;
-      clear = clear_above (suc r) (a.children + 1) (gathering x s) (under_first setting l k h a ∷ s.below) clear;
+      clear = clear_above (a.children + 1) (gathering x s) (under_first setting l k h a ∷ s.below) clear;
       number = refl;
       procedure = refl;
       slots = refl;
@@ -68,8 +68,8 @@ module _ (setting : Setting) (l : Loop) where
           between = parts.between;
           steps = second_begins setting l r (all_recorded setting l r) k h a x s clear fits many parts.between parts.first;
           turns = parts.second;
-          clear = clear_above (suc r) ((a.children + 1) + 1) (gathering parts.between s) (under_second setting l k h a ∷ s.below)
-              (clear_then setting l a.procedure a.slots a.left h.first x (h.count / 2) parts.between parts.first (suc (suc r)) s clear);
+          clear = clear_above ((a.children + 1) + 1) (gathering parts.between s) (under_second setting l k h a ∷ s.below)
+              (clear_then setting l a.procedure a.slots a.left h.first x (h.count / 2) parts.between parts.first s clear);
           number = number;
           procedure = refl;
           slots = refl;
@@ -106,7 +106,7 @@ module _ (setting : Setting) (l : Loop) where
       let done = gathered Running (turned_by n l part one) y z in
       let fits : n ≤ part.count = omega (arith, some) in
       let begins : IsStepped setting last begun = steps_ahead setting last begun (turns_ahead setting l j part last begun refl refl (by_turns setting l j part b few) refl) in
-      steps_join setting start last done reached.steps (steps_join setting last begun done begins (recorded_turns setting l part one w n y reached.turns refl fits z (clear_amid 0 b w z reached.clear)))
+      steps_join setting start last done reached.steps (steps_join setting last begun done begins (recorded_turns setting l part one w n y reached.turns refl fits z (clear_amid w z reached.clear)))
 
 -- ---- as lists of a strand's parts
 
@@ -120,7 +120,7 @@ module _ (setting : Setting) (l : Loop) (r : ℕ) (s : PlainStrand) (h : Share) 
       (subst (λ (z : PlainActivation). Arrives setting l r s k h a x y path below m j part z n) (sym i) reached)))
 
 module _ (setting : Setting) (l : Loop) (r k given g : ℕ) (h : Share) (a : PlainActivation) (s : PlainStrand) (x y : Gathered) (n : ℕ) (path new : List ℕ) (old now : List PlainActivation) (b : PlainActivation) (deep : given ≡ suc k) (grain : g ≡ grain_of setting l a) (fits : h.count ≤ reach (suc r) g) (halved : g < h.count)
-    (clear : IsClear (suc (suc r)) (gathering x s)) (same_path : s.path ≡ path) (same_below : s.below ≡ reverse old) (those : AreRecorded setting l a.procedure a.slots a.left h.first x n y) where
+    (clear : IsClear (gathering x s)) (same_path : s.path ≡ path) (same_below : s.below ≡ reverse old) (those : AreRecorded setting l a.procedure a.slots a.left h.first x n y) where
   abbrev fits_here : h.count ≤ reach (suc r) (grain_of setting l a)
   fits_here = subst (λ (z : ℕ). h.count ≤ reach (suc r) z) grain fits
 
@@ -143,7 +143,7 @@ module _ (setting : Setting) (l : Loop) (r k given g : ℕ) (h : Share) (a : Pla
       deep (e ∙ ap (λ (xs : List ℕ). xs ++ ((a.children + 1) + 1) ∷ []) (sym same_path)) below is (second_arrives setting l r k h a s x y n clear fits_here halved_here those over)
 
 -- nothing is put on top
-pub arrived_here : (setting : Setting) (l : Loop) (r k : ℕ) (h : Share) (a : PlainActivation) (s : PlainStrand) (x y : Gathered) (n : ℕ) (path : List ℕ) (below : List PlainActivation) → IsClear (suc r) (gathering x s) → s.path ≡ path → s.below ≡ below
+pub arrived_here : (setting : Setting) (l : Loop) (r k : ℕ) (h : Share) (a : PlainActivation) (s : PlainStrand) (x y : Gathered) (n : ℕ) (path : List ℕ) (below : List PlainActivation) → IsClear (gathering x s) → s.path ≡ path → s.below ≡ below
     → AreRecorded setting l a.procedure a.slots a.left h.first x n y → Arrives setting l r s k h a x y path below n k h a n
 arrived_here setting l r k h a s x y n path below clear e f those =
     arrived_as setting l r s h a x y n k h n k k s.path path s.below below a a refl (sym e) (sym f) refl (stays_recorded setting l r k h a s x y n clear those)
@@ -152,7 +152,7 @@ arrived_here setting l r k h a s x y n path below clear e f those =
 pub arrivals_more : (setting : Setting) (site now : Loop) → now ≡ site → (r n : ℕ) → n ≡ suc r → (s : PlainStrand) (k : ℕ) (h : Share) (a : PlainActivation) (x y : Gathered) (path : List ℕ) (below : List PlainActivation) (m j : ℕ) (part : Share) (b : PlainActivation) (o : ℕ)
     (far : List ℕ) (deep : List PlainActivation) (i : ℕ) (small : Share) (c : PlainActivation) (q : ℕ)
     → Arrives setting site n s k h a x y path below m j part b o
-    → ((w : Gathered) → IsClear (suc (suc r)) (gathering w (under path below s)) → AreRecorded setting now b.procedure b.slots b.left part.first w o y → Arrives setting now r (under path below s) j part b w y far deep o i small c q)
+    → ((w : Gathered) → IsClear (gathering w (under path below s)) → AreRecorded setting now b.procedure b.slots b.left part.first w o y → Arrives setting now r (under path below s) j part b w y far deep o i small c q)
     → Arrives setting site r s k h a x y far deep m i small c q
 arrivals_more setting site now same r n long s k h a x y path below m j part b o far deep i small c q given step =
     let first : Arrives setting now (suc r) s k h a x y path below m j part b o =
@@ -166,16 +166,13 @@ module _ (setting : Setting) (l : Loop) (k : ℕ) (h : Share) (a : PlainActivati
   begins : (s : PlainStrand) → halves_gathered l k h a x s ≡ gathered Running a x s
   begins s = ap (λ (w : Work). gathered Running (at w a) x s) (sym there)
 
-  clear_here : (s : PlainStrand) → IsClear 9 (gathering x s) → IsClear (suc r) (gathering x s)
-  clear_here s clear = clear_less (suc r) 9 (gathering x s) (let less : suc r ≤ 9 = omega (arith, few) in less) clear
-
   -- all iterations are recorded
   pub half_over : (b : PlainActivation) (y : Gathered) → g ≡ grain_of setting l a → h.count ≤ reach r g → is_by_turns setting.codes a l k h.count ≡ false → AreRecorded setting l a.procedure a.slots a.left h.first x h.count y → b ≡ halved_to a
       → HalfRecords setting true a x path below b y path below
   half_over b y grain fits halved those is s clear e f =
       let reached : h.count ≤ reach r (grain_of setting l a) = subst (λ (z : ℕ). h.count ≤ reach r z) grain fits in
       let top : ended setting.codes l k h a ≡ b = ap (λ c. ended_by c l h a) halved ∙ sym is in
-      let over : IsStepped setting (halves_gathered l k h a x s) (gathered (Leaving (pos 0)) (ended setting.codes l k h a) y s) = all_recorded setting l r k h a x y s (clear_here s clear) reached those in
+      let over : IsStepped setting (halves_gathered l k h a x s) (gathered (Leaving (pos 0)) (ended setting.codes l k h a) y s) = all_recorded setting l r k h a x y s clear reached those in
       subst (λ (xs : List ℕ). IsStepped setting (gathered Running a x s) (gathered (Leaving (pos 0)) b y (under xs below s))) e
       (subst (λ (xs : List PlainActivation). IsStepped setting (gathered Running a x s) (gathered (Leaving (pos 0)) b y (under s.path xs s))) f
       (subst (λ (z : PlainStrand). IsStepped setting z (gathered (Leaving (pos 0)) b y s)) (begins s)
@@ -183,10 +180,10 @@ module _ (setting : Setting) (l : Loop) (k : ℕ) (h : Share) (a : PlainActivati
 
   -- the next one isn't
   pub half_stops : (new : List ℕ) (now : List PlainActivation) (n j : ℕ) (part : Share) (b : PlainActivation) (m : ℕ) → m < part.count → b.procedure ≡ a.procedure → g ≡ grain_of setting l a → part.count ≤ g → (c : PlainActivation) (y : Gathered)
-      → ((s : PlainStrand) → IsClear (suc r) (gathering x s) → s.path ≡ path → s.below ≡ below → Arrives setting l 0 s k h a x y new now n j part b m)
+      → ((s : PlainStrand) → IsClear (gathering x s) → s.path ≡ path → s.below ≡ below → Arrives setting l 0 s k h a x y new now n j part b m)
       → c ≡ turned_by m l part (at (Turns l part) b) → HalfRecords setting false a x path below c y new now
   half_stops new now n j part b m some procedure grain one c y reaches is s clear e f =
       let by_one : part.count ≤ grain_of setting l b = subst (λ (p : ℕ). part.count ≤ (grain_of setting l (record a { procedure = p }))) (sym procedure) (subst (λ (z : ℕ). part.count ≤ z) grain one) in
       subst (λ (z : PlainStrand). IsStepped setting z (gathered Running c y (under new now s))) (begins s)
       (subst (λ (z : PlainActivation). IsStepped setting (halves_gathered l k h a x s) (gathered Running z y (under new now s))) (sym is)
-      (stopped_recorded setting l s k h a x y new now n j part b m (reaches s (clear_here s clear) e f) by_one some))
+      (stopped_recorded setting l s k h a x y new now n j part b m (reaches s clear e f) by_one some))

@@ -1,5 +1,5 @@
 -- A strand that goes ahead: one path behind another, and what the steps keep.
-use Rattle.std.proofs.Common.{◌≡◌, ℕ, ◌+◌, ◌-◌, ◌==◌, ℤ, pos, Bool, true, false, if◌then◌else◌, List, [], ◌∷◌, Option, Some, None, Ok, refl, sym, ap, ◌∙◌, subst}
+use Rattle.std.proofs.Common.{◌≡◌, ℕ, zero, suc, ◌++◌, ◌+◌, ◌-◌, ◌==◌, ℤ, pos, Bool, true, false, if◌then◌else◌, List, [], ◌∷◌, Option, Some, None, Ok, refl, sym, ap, ◌∙◌, subst}
 use Rattle.meaning.specs.declared.tree.Way.{Way}
 use Rattle.meaning.specs.declared.tree.Way.TheVariants.{Call, Spawn}
 use Rattle.meaning.specs.declared.FaultKind.TheVariants.{TooDeep}
@@ -23,7 +23,7 @@ use Rattle.positions.specs.Layers.{PlainLayer, entering}
 use Rattle.positions.specs.Strands.{PlainStrand, is_entry}
 use Rattle.positions.specs.Moves.{inlined}
 use Rattle.positions.specs.Advance.{begun, started_by, noted, answered, evaluated, worked, advanced, advanced_at, closed, owns_top, started_as, called_as, called, in_phase, giving, turned, turn_by, left_to, pushed, faulted, child_of}
-use Rattle.own_statements.specs.Paths.{IsPath, MayPass, topped, phase_by, ComesTo}
+use Rattle.own_statements.specs.Paths.{IsPath, MayPass, StopsBy, stacked, topped, phase_by, ComesTo}
 use Rattle.own_statements.specs.Paths as paths
 use Rattle.answered_loops.specs.Ways.{IsNext, IsWay, here, on, as_call}
 use Rattle.answered_loops.proofs.Ways.{way_join}
@@ -49,6 +49,32 @@ module _ (setting : Setting) where
   pub way_of : (s t : PlainStrand) → IsPath setting s t → IsWay setting s t
   way_of s t paths.here = here
   way_of s t (paths.on u v p e) = on u v (way_of s u p) e
+
+  -- what instances that stand above one another keep
+  pub stacked_lower : (n : ℕ) (b : PlainActivation) (ys : List PlainActivation) (m : PlainLayer) (s : PlainStrand) → (stacked n b ys m s).lower ≡ s.lower
+  stacked_lower zero b ys m s = refl
+  stacked_lower (suc n) b [] m s = refl
+  stacked_lower (suc n) b (y ∷ ys) m s = stacked_lower n y ys m (record s { path = s.path ++ b.children ∷ []; below = b ∷ s.below })
+
+  pub stacked_tally : (n : ℕ) (b : PlainActivation) (ys : List PlainActivation) (m : PlainLayer) (s : PlainStrand) → (stacked n b ys m s).tally ≡ s.tally
+  stacked_tally zero b ys m s = refl
+  stacked_tally (suc n) b [] m s = refl
+  stacked_tally (suc n) b (y ∷ ys) m s = stacked_tally n y ys m (record s { path = s.path ++ b.children ∷ []; below = b ∷ s.below })
+
+  pub stacked_kinds : (n : ℕ) (b : PlainActivation) (ys : List PlainActivation) (m : PlainLayer) (s : PlainStrand) → (stacked n b ys m s).layer.kinds ≡ m.kinds
+  stacked_kinds zero b ys m s = refl
+  stacked_kinds (suc n) b [] m s = refl
+  stacked_kinds (suc n) b (y ∷ ys) m s = stacked_kinds n y ys m (record s { path = s.path ++ b.children ∷ []; below = b ∷ s.below })
+
+  -- the topmost instance's statements, and those of instances that it has called, which stand above it
+  pub stop_ahead : (passes : Bool) (s : PlainStrand) (n : ℕ) (b : PlainActivation) (ys : List PlainActivation) (m : PlainLayer) (t : PlainStrand) → s.phase ≡ Running → MayPass passes s
+      → StopsBy setting passes s.top s.layer n b ys m → m.kinds ≡ s.layer.kinds → t ≡ stacked n b ys m s → IsAhead setting s t
+  stop_ahead passes s n b ys m t running may stop kinds is =
+      let start = topped Running s.top s.layer s in
+      let end = stacked n b ys m s in
+      let begins : start ≡ s = ap (λ (f : Phase). in_phase f s) (sym running) in
+      let ahead : IsAhead setting start end = record { way = way_of start end (stop.1 s may); lower = stacked_lower n b ys m s; kinds = stacked_kinds n b ys m s ∙ kinds; tally = stacked_tally n b ys m s } in
+      subst (λ (v : PlainStrand). IsAhead setting s v) (sym is) (subst (λ (u : PlainStrand). IsAhead setting u end) begins ahead)
 
   -- the topmost instance's own statements
   pub come_ahead : (passes : Bool) (given : Option ℤ) (s : PlainStrand) (b : PlainActivation) (m : PlainLayer) (t : PlainStrand) → s.phase ≡ Running → MayPass passes s
@@ -179,20 +205,20 @@ module _ (setting : Setting) where
         subst (λ (u : PlainStrand). IsAhead setting u (with_begun way into w f slots s)) (sym (ap (λ b. if b then faulted n TooDeep s else entered_plain way into w f slots s) deep))
         (child_begins way into w f slots s memo)
 
-    module _ (n : ℕ) (deep : (s.top.left == 0) ≡ false) (memo : memo_of setting.codes f ≡ false) (b : PlainActivation) (m : PlainLayer) (kinds : m.kinds ≡ s.layer.kinds) where
+    module _ (number : ℕ) (deep : (s.top.left == 0) ≡ false) (memo : memo_of setting.codes f ≡ false) (b : PlainActivation) (m : PlainLayer) (kinds : m.kinds ≡ s.layer.kinds) where
       abbrev child : PlainStrand
       child = with_child way into w f slots s
 
       abbrev start : PlainStrand
       start = with_begun way into w f slots s
 
-      -- it goes on
-      pub child_stays : (t : PlainStrand) → MayPass true child → ComesTo setting true (child_of f slots s) (layer_then way into w f slots s) None b m → t ≡ topped Running b m child
-          → IsAhead setting (nested_plain n way into w f slots s) t
-      child_stays t may come is =
-          subst (λ (v : PlainStrand). IsAhead setting (nested_plain n way into w f slots s) v) (sym is)
-          (ahead_join (nested_plain n way into w f slots s) start (topped Running b m child) (begins n deep memo)
-          (record { way = way_of start (topped Running b m child) (come child may); lower = refl; kinds = kinds; tally = refl }))
+      -- it goes on, or those that it has called do
+      pub child_stays : (n : ℕ) (ys : List PlainActivation) (t : PlainStrand) → MayPass true child → StopsBy setting true (child_of f slots s) (layer_then way into w f slots s) n b ys m → t ≡ stacked n b ys m child
+          → IsAhead setting (nested_plain number way into w f slots s) t
+      child_stays n ys t may stop is =
+          subst (λ (v : PlainStrand). IsAhead setting (nested_plain number way into w f slots s) v) (sym is)
+          (ahead_join (nested_plain number way into w f slots s) start (stacked n b ys m child) (begins number deep memo)
+          (record { way = way_of start (stacked n b ys m child) (stop.1 child may); lower = stacked_lower n b ys m child; kinds = stacked_kinds n b ys m child ∙ kinds; tally = stacked_tally n b ys m child }))
 
       -- it has come back with a value
       module _ (v : ℤ) (entry : is_entry child ≡ false) (own : owns_top child ≡ false) where
@@ -207,8 +233,8 @@ module _ (setting : Setting) where
         left : IsNext setting (topped (Leaving v) b m child) back
         left kit = ap (λ xs. record back { path = xs }) (sym (path_back s.path (s.top.children + 1)))
 
-        pub child_returns : (t : PlainStrand) → ComesTo setting true (child_of f slots s) (layer_then way into w f slots s) (Some v) b m → t ≡ back → IsAhead setting (nested_plain n way into w f slots s) t
-        child_returns t come is =
-            let walk : IsWay setting start back = on (topped (Leaving v) b m child) back (on (topped (Returning v) b m child) (topped (Leaving v) b m child) (way_of start (topped (Returning v) b m child) (come child (λ _. entry))) leaving) left in
-            subst (λ (v : PlainStrand). IsAhead setting (nested_plain n way into w f slots s) v) (sym is)
-            (ahead_join (nested_plain n way into w f slots s) start back (begins n deep memo) (record { way = walk; lower = refl; kinds = kinds; tally = refl }))
+        pub child_returns : (t : PlainStrand) → MayPass true child → ComesTo setting true (child_of f slots s) (layer_then way into w f slots s) (Some v) b m → t ≡ back → IsAhead setting (nested_plain number way into w f slots s) t
+        child_returns t may come is =
+            let walk : IsWay setting start back = on (topped (Leaving v) b m child) back (on (topped (Returning v) b m child) (topped (Leaving v) b m child) (way_of start (topped (Returning v) b m child) (come child may)) leaving) left in
+            subst (λ (v : PlainStrand). IsAhead setting (nested_plain number way into w f slots s) v) (sym is)
+            (ahead_join (nested_plain number way into w f slots s) start back (begins number deep memo) (record { way = walk; lower = refl; kinds = kinds; tally = refl }))

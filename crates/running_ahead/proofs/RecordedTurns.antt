@@ -42,12 +42,12 @@ module _ (setting : Setting) (l : Loop) (p : ℕ) (slots : List Slot) (left : �
   opened_same zero y none = refl
   opened_same (suc n) z (more m y w before same turn) = same ∙ opened_same n y before
 
-  pub clear_then : (n : ℕ) (y : Gathered) → AreRecorded setting l p slots left i x n y → (d : ℕ) (s : PlainStrand) → IsClear d (gathering x s) → IsClear d (gathering y s)
-  clear_then n y those d s clear path long short =
-      ((clear path long short).0, subst (λ (os : List PlainOpened). is_own os (length path) ≡ false) (sym (opened_same n y those)) (clear path long short).1)
+  pub clear_then : (n : ℕ) (y : Gathered) → AreRecorded setting l p slots left i x n y → (s : PlainStrand) → IsClear (gathering x s) → IsClear (gathering y s)
+  clear_then n y those s clear path long =
+      ((clear path long).0, subst (λ (os : List PlainOpened). is_own os (length path) ≡ false) (sym (opened_same n y those)) (clear path long).1)
 
-pub clear_amid : (d : ℕ) (a : PlainActivation) (x : Gathered) (s : PlainStrand) → IsClear (suc d) (gathering x s) → IsAmid s
-clear_amid d a x s clear number = (clear_home d a x.layer (gathering x s) clear).entry number
+pub clear_amid : (d : ℕ) (a : PlainActivation) (x : Gathered) (s : PlainStrand) → IsClear (gathering x s) → IsAmid s
+clear_amid x s clear n ns = (clear_home d a x.layer (gathering x s) clear).entry number
 
 -- those of one instance
 pub recorded_turns : (setting : Setting) (l : Loop) (h : Share) (a : PlainActivation) (x : Gathered) (n : ℕ) (y : Gathered) → AreRecorded setting l a.procedure a.slots a.left h.first x n y → a.work ≡ Turns l h → n ≤ h.count

@@ -13,17 +13,14 @@ use Rattle.positions.specs.Layers.{PlainLayer}
 use Rattle.positions.specs.Strands.{PlainStrand}
 use Rattle.positions.specs.Advance.{left_of, right_of}
 use Rattle.activations.specs.Turned.{turned_by}
-use Rattle.own_statements.specs.Paths.{topped}
+use Rattle.own_statements.specs.Paths.{HasRoomAbove, stacked, topped}
 use Rattle.answered_loops.specs.Answered.{is_by_turns}
-use Rattle.running_ahead.specs.Ahead.{IsAhead, ComeBack, topped_child}
+use Rattle.running_ahead.specs.Ahead.{IsAhead}
 use Rattle.running_ahead.specs.Chains.{AreTurns, IsWithin, reach, IsClear, halves_now, under, Reaches}
 use Rattle.running_ahead.proofs.Paths.{ahead_here, ahead_join}
 use Rattle.running_ahead.proofs.Halving.{turns_ahead}
 use Rattle.running_ahead.proofs.ChainedTurns.{ArePartedAt, parted, chained_turns, chained_stay}
 use Rattle.running_ahead.proofs.ChainedHalves.{clear_home, clear_above, grain_of, child_of_half, under_first, under_second, to_first, by_turns, all_over, second_begun}
-
-pub clear_less : (d e : ℕ) (s : PlainStrand) → d ≤ e → IsClear e s → IsClear d s
-clear_less d e s fewer clear path long short = clear path long (omega (arith, fewer, short))
 
 pub reach_more : (r g : ℕ) → g ≤ reach r g
 reach_more zero g = omega arith
@@ -36,7 +33,7 @@ not_by_turns k c g more = grind (arith, nat_tests, more)
 
 module _ (setting : Setting) (l : Loop) where
   -- the half isn't halved
-  pub stays_there : (r k : ℕ) (h : Share) (a : PlainActivation) (s : PlainStrand) (u v : PlainLayer) (n : ℕ) → IsClear (suc r) s → AreTurns setting l a.procedure a.slots a.left h.first u n v
+  pub stays_there : (r k : ℕ) (h : Share) (a : PlainActivation) (s : PlainStrand) (u v : PlainLayer) (n : ℕ) → IsClear s → AreTurns setting l a.procedure a.slots a.left h.first u n v
       → Reaches setting l r s k h a u v s.path s.below n k h a n
   stays_there r k h a s u v n clear turns = record {
     between = u;
@@ -49,7 +46,7 @@ module _ (setting : Setting) (l : Loop) where
     left = refl;
   }
 
-  module _ (r k : ℕ) (h : Share) (a : PlainActivation) (s : PlainStrand) (u v : PlainLayer) (n : ℕ) (clear : IsClear (suc (suc r)) s) (fits : h.count ≤ reach (suc r) (grain_of setting l a)) (halved : grain_of setting l a < h.count)
+  module _ (r k : ℕ) (h : Share) (a : PlainActivation) (s : PlainStrand) (u v : PlainLayer) (n : ℕ) (clear : IsClear s) (fits : h.count ≤ reach (suc r) (grain_of setting l a)) (halved : grain_of setting l a < h.count)
       (turns : AreTurns setting l a.procedure a.slots a.left h.first u n v) where
     abbrev many : is_by_turns setting.codes a l (suc k) h.count ≡ false
     many = not_by_turns k h.count (grain_of setting l a) halved
@@ -60,7 +57,7 @@ module _ (setting : Setting) (l : Loop) where
       between = u;
       ahead = to_first setting l k h a u s many;
       turns = turns;
-      clear = clear_above (suc r) (a.children + 1) s (under_first setting l k h a ∷ s.below) clear;
+      clear = clear_above (a.children + 1) s (under_first setting l k h a ∷ s.below) clear;
       number = refl;
       procedure = refl;
       slots = refl;
@@ -77,7 +74,7 @@ module _ (setting : Setting) (l : Loop) where
           between = those.between;
           ahead = second_begun setting l r (all_over setting l r) k h a u s clear fits many those.between those.first;
           turns = those.second;
-          clear = clear_above (suc r) ((a.children + 1) + 1) s (under_second setting l k h a ∷ s.below) clear;
+          clear = clear_above ((a.children + 1) + 1) s (under_second setting l k h a ∷ s.below) clear;
           number = number;
           procedure = refl;
           slots = refl;
@@ -107,8 +104,8 @@ module _ (setting : Setting) (l : Loop) where
     abbrev x : PlainStrand
     x = under path below s
 
-    abbrev home : ComeBack x
-    home = clear_home 0 b v x reached.clear
+    abbrev home : HasRoomAbove x
+    home = clear_home x reached.clear
 
     abbrev by_one : PlainActivation
     by_one = at (Turns l part) b
@@ -126,21 +123,21 @@ module _ (setting : Setting) (l : Loop) where
         ahead_join setting (halves_now l k h a u s) (topped Running by_one reached.between x) (topped Running (turned_by n l part by_one) v x) begins
         (chained_turns setting l part by_one reached.between n v reached.turns refl fits x home)
 
-  -- its next iteration is called and stands on top
-  pub stopped_within : (s : PlainStrand) (k : ℕ) (h : Share) (a : PlainActivation) (u : PlainLayer) (path : List ℕ) (below : List PlainActivation) (m j : ℕ) (part : Share) (b : PlainActivation) (n : ℕ) (child : PlainActivation) (w : PlainLayer)
-      → (inside : IsWithin setting l a.procedure a.slots a.left h.first m u child w) → Reaches setting l 0 s k h a u inside.before path below m j part b n → part.count ≤ grain_of setting l b → n < part.count
-      → IsAhead setting (halves_now l k h a u s) (topped_child child (turned_by (suc n) l part (at (Turns l part) b)) w (under path below s))
-  stopped_within s k h a u path below m j part b n child w inside reached few some =
+  -- its next iteration is called and stands above it
+  pub stopped_within : (s : PlainStrand) (k : ℕ) (h : Share) (a : PlainActivation) (u : PlainLayer) (path : List ℕ) (below : List PlainActivation) (m j : ℕ) (part : Share) (b : PlainActivation) (n o : ℕ) (xs : List PlainActivation) (w : PlainLayer)
+      → (inside : IsWithin setting l a.procedure a.slots a.left h.first m o u xs w) → Reaches setting l 0 s k h a u inside.before path below m j part b n → part.count ≤ grain_of setting l b → n < part.count
+      → IsAhead setting (halves_now l k h a u s) (stacked (suc o) (turned_by (suc n) l part (at (Turns l part) b)) xs w (under path below s))
+  stopped_within s k h a u path below m j part b n o xs w inside reached few some =
       let x = under path below s in
       let by_one = at (Turns l part) b in
-      let t = topped_child child (turned_by (suc n) l part by_one) w x in
-      let there : IsWithin setting l b.procedure b.slots b.left part.first n reached.between child w = record {
+      let t = stacked (suc o) (turned_by (suc n) l part by_one) xs w x in
+      let there : IsWithin setting l b.procedure b.slots b.left part.first n o reached.between xs w = record {
         before = inside.before;
         turns = reached.turns;
         stay = λ c g procedure slots left work first. inside.stay c g (procedure ∙ reached.procedure) (slots ∙ reached.slots) (left ∙ reached.left) work (first ∙ reached.number);
       } in
       ahead_join setting (halves_now l k h a u s) (topped Running by_one reached.between x) t (begins s k h a u inside.before path below m j part b n reached few some)
-      (chained_stay setting l part by_one reached.between n child w there refl some x (clear_home 0 b w x reached.clear))
+      (chained_stay setting l part by_one reached.between n o xs w there refl some x (clear_home x reached.clear))
 
 -- ---- as lists of a strand's parts
 
@@ -154,7 +151,7 @@ module _ (setting : Setting) (l : Loop) (r : ℕ) (s : PlainStrand) (h : Share) 
       (subst (λ (x : PlainActivation). Reaches setting l r s k h a u v path below m j part x n) (sym i) reached)))
 
 module _ (setting : Setting) (l : Loop) (r k given g : ℕ) (h : Share) (a : PlainActivation) (s : PlainStrand) (u v : PlainLayer) (n : ℕ) (path new : List ℕ) (old now : List PlainActivation) (b : PlainActivation) (deep : given ≡ suc k) (grain : g ≡ grain_of setting l a) (fits : h.count ≤ reach (suc r) g) (halved : g < h.count)
-    (clear : IsClear (suc (suc r)) s) (same_path : s.path ≡ path) (same_below : s.below ≡ reverse old) (turns : AreTurns setting l a.procedure a.slots a.left h.first u n v) where
+    (clear : IsClear s) (same_path : s.path ≡ path) (same_below : s.below ≡ reverse old) (turns : AreTurns setting l a.procedure a.slots a.left h.first u n v) where
   abbrev fits_here : h.count ≤ reach (suc r) (grain_of setting l a)
   fits_here = subst (λ (x : ℕ). h.count ≤ reach (suc r) x) grain fits
 
@@ -177,7 +174,7 @@ module _ (setting : Setting) (l : Loop) (r k given g : ℕ) (h : Share) (a : Pla
       deep (e ∙ ap (λ (xs : List ℕ). xs ++ ((a.children + 1) + 1) ∷ []) (sym same_path)) below is (second_reached setting l r k h a s u v n clear fits_here halved_here turns over)
 
 -- nothing is put on top
-pub reached_here : (setting : Setting) (l : Loop) (r k : ℕ) (h : Share) (a : PlainActivation) (s : PlainStrand) (u v : PlainLayer) (n : ℕ) (path : List ℕ) (below : List PlainActivation) → IsClear (suc r) s → s.path ≡ path → s.below ≡ below
+pub reached_here : (setting : Setting) (l : Loop) (r k : ℕ) (h : Share) (a : PlainActivation) (s : PlainStrand) (u v : PlainLayer) (n : ℕ) (path : List ℕ) (below : List PlainActivation) → IsClear s → s.path ≡ path → s.below ≡ below
     → AreTurns setting l a.procedure a.slots a.left h.first u n v → Reaches setting l r s k h a u v path below n k h a n
 reached_here setting l r k h a s u v n path below clear e f turns =
     reached_as setting l r s h a u v n k h n k k s.path path s.below below a a refl (sym e) (sym f) refl (stays_there setting l r k h a s u v n clear turns)
@@ -186,7 +183,7 @@ reached_here setting l r k h a s u v n path below clear e f turns =
 pub level_joined : (setting : Setting) (site now : Loop) → now ≡ site → (r n : ℕ) → n ≡ suc r → (s : PlainStrand) (k : ℕ) (h : Share) (a : PlainActivation) (u v : PlainLayer) (path : List ℕ) (below : List PlainActivation) (m j : ℕ) (part : Share) (b : PlainActivation) (o : ℕ)
     (far : List ℕ) (deep : List PlainActivation) (i : ℕ) (small : Share) (c : PlainActivation) (q : ℕ)
     → Reaches setting site n s k h a u v path below m j part b o
-    → ((w : PlainLayer) → IsClear (suc (suc r)) (under path below s) → AreTurns setting now b.procedure b.slots b.left part.first w o v → Reaches setting now r (under path below s) j part b w v far deep o i small c q)
+    → ((w : PlainLayer) → IsClear (under path below s) → AreTurns setting now b.procedure b.slots b.left part.first w o v → Reaches setting now r (under path below s) j part b w v far deep o i small c q)
     → Reaches setting site r s k h a u v far deep m i small c q
 level_joined setting site now same r n long s k h a u v path below m j part b o far deep i small c q given step =
     let first : Reaches setting now (suc r) s k h a u v path below m j part b o =

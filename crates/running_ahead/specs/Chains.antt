@@ -12,10 +12,10 @@ use Rattle.positions.specs.Layers.{PlainLayer}
 use Rattle.positions.specs.Strands.{PlainStrand, entry_by}
 use Rattle.positions.specs.Tallies.{is_own}
 use Rattle.positions.specs.Advance.{rest_of}
-use Rattle.own_statements.specs.Paths.{topped}
+use Rattle.own_statements.specs.Paths.{HasRoomAbove, stacked, topped}
 use Rattle.running_ahead.specs.declared.came.Chained.{Chained}
 use Rattle.running_ahead.specs.declared.came.Chained.TheVariants.{Whole, Before, Within}
-use Rattle.running_ahead.specs.Ahead.{IsAhead, ComeBack, TurnsOn, topped_child}
+use Rattle.running_ahead.specs.Ahead.{IsAhead, TurnsOn}
 
 -- the iteration of that number goes back to its loop's instance, whatever instance that is of a procedure with those slots and so many
 -- levels below it
@@ -24,11 +24,11 @@ IsTurn setting l p slots left i u v = (a : PlainActivation) (h : Share)
     → a.procedure ≡ p → a.slots ≡ slots → a.left ≡ left → a.work ≡ Turns l h → h.first ≡ i → (h.count == 0) ≡ false
     → TurnsOn setting a u (waiting false None (Turns l (rest_of h)) a) v
 
--- it has more to do then, and stands on top
-abbrev pub IsStay : Setting → Loop → ℕ → List Slot → ℕ → ℕ → PlainLayer → PlainActivation → PlainLayer → Type 0
-IsStay setting l p slots left i u child v = (a : PlainActivation) (h : Share)
+-- it has more to do then, and stands above it with so many that it has called
+abbrev pub IsStay : Setting → Loop → ℕ → List Slot → ℕ → ℕ → PlainLayer → ℕ → List PlainActivation → PlainLayer → Type 0
+IsStay setting l p slots left i u n xs v = (a : PlainActivation) (h : Share)
     → a.procedure ≡ p → a.slots ≡ slots → a.left ≡ left → a.work ≡ Turns l h → h.first ≡ i → (h.count == 0) ≡ false
-    → (s : PlainStrand) → ComeBack s → IsAhead setting (topped Running a u s) (topped_child child (waiting false None (Turns l (rest_of h)) a) v s)
+    → (s : PlainStrand) → HasRoomAbove s → IsAhead setting (topped Running a u s) (stacked (suc n) (waiting false None (Turns l (rest_of h)) a) xs v s)
 
 -- so many iterations from that one on go back, one after another
 pub data AreTurns (setting : Setting) (l : Loop) (p : ℕ) (slots : List Slot) (left : ℕ) (i : ℕ) (u : PlainLayer) : ℕ → PlainLayer → Type 0 where
@@ -41,31 +41,30 @@ abbrev pub reach : ℕ → ℕ → ℕ
 reach zero grain = grain
 reach (suc r) grain = reach r grain + reach r grain
 
--- the implicit syncs of the topmost instance and of those above it, up to so many levels, are passed and close no layer
-abbrev pub IsClear : ℕ → PlainStrand → Type 0
-IsClear levels s = (path : List ℕ) → length s.path ≤ length path → length path ≤ length s.path + levels
-    → (entry_by s.start path ≡ false) × (is_own s.tally.opened (length path) ≡ false)
+-- the implicit syncs of the topmost instance and of those above it are passed and close no layer
+abbrev pub IsClear : PlainStrand → Type 0
+IsClear s = (path : List ℕ) → length s.path ≤ length path → (entry_by s.start path ≡ false) × (is_own s.tally.opened (length path) ≡ false)
 
 -- ---- what came of so many iterations
 
 -- those before it go back, and it has more to do
-pub record IsWithin (setting : Setting) (l : Loop) (p : ℕ) (slots : List Slot) (left : ℕ) (i n : ℕ) (u : PlainLayer) (child : PlainActivation)
-    (v : PlainLayer) : Type 0 where
+pub record IsWithin (setting : Setting) (l : Loop) (p : ℕ) (slots : List Slot) (left : ℕ) (i n more : ℕ) (u : PlainLayer)
+    (xs : List PlainActivation) (v : PlainLayer) : Type 0 where
   pub before : PlainLayer
   pub turns : AreTurns setting l p slots left i u n before
-  pub stay : IsStay setting l p slots left (i + n) before child v
+  pub stay : IsStay setting l p slots left (i + n) before more xs v
 
--- all go back; or the first ones, and then nothing is done; or the first ones, and the next one stands on top
-abbrev pub ChainsTo : Setting → Loop → PlainActivation → ℕ → ℕ → Chained → PlainLayer → PlainActivation → PlainLayer → Type 0
-ChainsTo setting l a i most Whole u child v = AreTurns setting l a.procedure a.slots a.left i u most v
-ChainsTo setting l a i most (Before n) u child v = AreTurns setting l a.procedure a.slots a.left i u n v
-ChainsTo setting l a i most (Within n) u child v = IsWithin setting l a.procedure a.slots a.left i n u child v
+-- all go back; or the first ones, and then nothing is done; or the first ones, and the next one stands above the loop's instance
+abbrev pub ChainsTo : Setting → Loop → PlainActivation → ℕ → ℕ → Chained → PlainLayer → List PlainActivation → PlainLayer → Type 0
+ChainsTo setting l a i most Whole u xs v = AreTurns setting l a.procedure a.slots a.left i u most v
+ChainsTo setting l a i most (Before n) u xs v = AreTurns setting l a.procedure a.slots a.left i u n v
+ChainsTo setting l a i most (Within n more) u xs v = IsWithin setting l a.procedure a.slots a.left i n more u xs v
 
--- where not all go back, these are fewer
-abbrev pub IsFewer : ℕ → Chained → Type 0
-IsFewer most Whole = Unit {0}
-IsFewer most (Before n) = n < most
-IsFewer most (Within n) = n < most
+-- where not all go back, these are fewer, and at most so many stand above the next one
+abbrev pub IsFewer : ℕ → ℕ → Chained → Type 0
+IsFewer most above Whole = Unit {0}
+IsFewer most above (Before n) = n < most
+IsFewer most above (Within n more) = (n < most) × (more ≤ above)
 
 -- ---- halves that are put on the strand
 
@@ -83,7 +82,7 @@ pub record Reaches (setting : Setting) (l : Loop) (r : ℕ) (s : PlainStrand) (k
   pub between : PlainLayer
   pub ahead : IsAhead setting (halves_now l k h a u s) (halves_now l j part b between (under path below s))
   pub turns : AreTurns setting l b.procedure b.slots b.left part.first between n v
-  pub clear : IsClear (suc r) (under path below s)
+  pub clear : IsClear (under path below s)
   pub number : part.first + n ≡ h.first + m
   pub procedure : b.procedure ≡ a.procedure
   pub slots : b.slots ≡ a.slots
@@ -98,5 +97,5 @@ half_phase false = Running
 -- in whatever strand: it leaves, or one of its parts goes on
 abbrev pub HalfTo : Setting → Bool → PlainActivation → PlainLayer → List ℕ → List PlainActivation
     → PlainActivation → PlainLayer → List ℕ → List PlainActivation → Type 0
-HalfTo setting over a u path below b v new_path new_below = (s : PlainStrand) → IsClear 9 s → s.path ≡ path → s.below ≡ below
+HalfTo setting over a u path below b v new_path new_below = (s : PlainStrand) → IsClear s → s.path ≡ path → s.below ≡ below
     → IsAhead setting (topped Running a u s) (topped (half_phase over) b v (under new_path new_below s))

@@ -33,9 +33,9 @@ gathering x s = record s { layer = x.layer; arguments = x.arguments; tally = x.t
 abbrev pub gathered : Phase → PlainActivation → Gathered → PlainStrand → PlainStrand
 gathered phase a x s = record s { layer = x.layer; top = a; phase = phase; arguments = x.arguments; tally = x.tally }
 
--- the strand begins in no child of the topmost instance
+-- the strand begins in no instance above the topmost one
 abbrev pub IsAmid : PlainStrand → Type 0
-IsAmid s = (number : ℕ) → entry_by s.start (s.path ++ number ∷ []) ≡ false
+IsAmid s = (n : ℕ) (ns : List ℕ) → entry_by s.start (s.path ++ n ∷ ns) ≡ false
 
 -- the iteration of that number is recorded, and goes back to its loop's instance, whatever instance that is of a procedure with those slots
 -- and so many levels below it

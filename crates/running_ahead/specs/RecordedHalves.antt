@@ -21,7 +21,7 @@ pub record Arrives (setting : Setting) (l : Loop) (r : ℕ) (s : PlainStrand) (k
   pub between : Gathered
   pub steps : IsStepped setting (halves_gathered l k h a x s) (halves_gathered l j part b between (under path below s))
   pub turns : AreRecorded setting l b.procedure b.slots b.left part.first between n y
-  pub clear : IsClear (suc r) (gathering between (under path below s))
+  pub clear : IsClear (gathering between (under path below s))
   pub number : part.first + n ≡ h.first + m
   pub procedure : b.procedure ≡ a.procedure
   pub slots : b.slots ≡ a.slots
@@ -30,5 +30,5 @@ pub record Arrives (setting : Setting) (l : Loop) (r : ℕ) (s : PlainStrand) (k
 -- in whatever strand: it leaves, or one of its parts goes on
 abbrev pub HalfRecords : Setting → Bool → PlainActivation → Gathered → List ℕ → List PlainActivation
     → PlainActivation → Gathered → List ℕ → List PlainActivation → Type 0
-HalfRecords setting over a x path below b y new_path new_below = (s : PlainStrand) → IsClear 9 (gathering x s) → s.path ≡ path → s.below ≡ below
+HalfRecords setting over a x path below b y new_path new_below = (s : PlainStrand) → IsClear (gathering x s) → s.path ≡ path → s.below ≡ below
     → IsStepped setting (gathered Running a x s) (gathered (half_phase over) b y (under new_path new_below s))

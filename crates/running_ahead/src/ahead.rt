@@ -1,19 +1,21 @@
 //! Many small steps in one go: those for which no kit is needed. A spawned child is called where it is said so, else it ends them.
-ghost use Rattle.std.specs.Prelude.{◌≡◌, true};
+ghost use Rattle.std.specs.Prelude.{◌≡◌, ◌≤◌, ◌+◌, true, vec_len, vec_capacity};
 ghost use Rattle.positions.specs.Activations.{ShareFits};
 ghost use Rattle.positions.specs.Setting.{Setting as PlainSetting};
 ghost use Rattle.activations.specs.Given.{lent};
 ghost use Rattle.own_statements.specs.Paths.{phase_by, MayPass};
 ghost use Rattle.running_ahead.specs.Ahead.{IsAhead, OnBack};
 
-use crate::came::Came;
-use crate::children::{ends_otherwise, enter_ahead, put_on_top};
+use crate::came::{Came, Gone};
+use crate::children::{enter_ahead, has_room_above, put_all, put_on_top};
 use crate::halves::{halves_ahead, second_ahead};
 use crate::spawning::Spawning;
 use crate::turns::turns;
+use activations::activation::Activation;
 use activations::code::{instruction, loop_code};
 use activations::setting::Setting;
 use layers::layer::DEEPEST;
+use own_statements::ran::Ended;
 use own_statements::runs::run;
 use positions::phase::Phase;
 use positions::work::{Loop, Share, Work};
@@ -39,6 +41,7 @@ pub fn run_ahead<V: View, S: Spawning>(
     ensures ahead { IsAhead (lent setting.entry) machine.old machine.new }
     ensures same { spawning.new ≡ spawning.old }
 {
+    machine.spares.make_nest(alloc);
     if leaves_for_memo(machine, setting) {
         return;
     }
@@ -269,27 +272,55 @@ fn statements_ahead<V: View>(machine: &mut Machine<V>, setting: Setting<'_>) -> 
     ensures phase { machine.new.phase ≡ phase_by result }
 {
     let passes = passes_syncs(machine);
+    let alloc = *machine.numbers.allocator();
+    let most = machine.spares.nest.above.len();
+    if !has_room(&mut machine.path, &mut machine.below, most) {
+        return None;
+    }
     match run(
         &mut machine.layer,
         setting,
         passes,
         &mut machine.top,
+        &mut machine.spares.nest.above,
         &mut machine.numbers,
     ) {
-        Some(value) => {
+        Ended::Gave(value) => {
             machine.phase = Phase::Returning(value);
             Some(value)
         }
-        None => None,
+        Ended::Stopped(0) => None,
+        Ended::Stopped(more) => {
+            put_all(
+                &mut machine.path,
+                &mut machine.below,
+                &mut machine.top,
+                &mut machine.spares,
+                alloc,
+                more,
+            );
+            None
+        }
     }
 }
 
-/// Whether the topmost instance passes syncs: the strand doesn't begin in it.
+/// Whether there is room for so many more instances on a strand.
+#[inline(always)]
+fn has_room(path: &mut Vec<usize>, below: &mut Vec<Activation>, most: usize) -> bool
+    ensures path { path.new.items ≡ path.old.items }
+    ensures below { below.new.items ≡ below.old.items }
+    ensures path_room { result ≡ true → vec_len path.new + most ≤ vec_capacity path.new }
+    ensures below_room { result ≡ true → vec_len below.new + most ≤ vec_capacity below.new }
+{
+    path.reserve(most).is_ok() && below.reserve(most).is_ok()
+}
+
+/// Whether the topmost instance passes syncs and may call others beside the strand: that doesn't begin in it or above it.
 #[inline(always)]
 fn passes_syncs<V: View>(machine: &Machine<V>) -> bool
     ensures passes { MayPass result machine.now }
 {
-    !machine.is_entry()
+    !machine.is_entry() && has_room_above(machine)
 }
 
 /// The implicit sync of the topmost instance, whose value that is, where no layer is closed.
@@ -421,10 +452,11 @@ fn turns_ahead<V: View>(
         machine.phase = Phase::Returning(0);
         return true;
     }
-    if ends_otherwise(machine) {
+    if !has_room_above(machine) {
         return false;
     }
-    if machine.path.reserve(1).is_err() || machine.below.reserve(1).is_err() {
+    let most = machine.spares.nest.above.len() + 1;
+    if machine.path.reserve(most).is_err() || machine.below.reserve(most).is_err() {
         return false;
     }
     match turns(
@@ -433,18 +465,19 @@ fn turns_ahead<V: View>(
         site,
         share,
         &mut machine.top,
-        &mut machine.spares.child,
+        &mut machine.spares.nest,
         &mut machine.numbers,
     ) {
-        Came::Nowhere => false,
-        Came::Back => true,
-        Came::Stays => {
+        Gone::Nowhere => false,
+        Gone::Back => true,
+        Gone::Stays(more) => {
             put_on_top(
                 &mut machine.path,
                 &mut machine.below,
                 &mut machine.top,
                 &mut machine.spares,
                 alloc,
+                more,
             );
             true
         }

@@ -1,12 +1,11 @@
 //! Halves of a loop that are called and done in one go: one iteration after another, without the halves' parts on the strand.
-ghost use Rattle.std.specs.Prelude.{◌≡◌, ◌+◌, ◌<◌, ◌≤◌, ◌^◌, ◌==◌, ℕ, List, true, false, All, IfSome, OnSome, length, reverse, vec_len, vec_capacity};
+ghost use Rattle.std.specs.Prelude.{◌≡◌, ◌+◌, ◌<◌, ◌≤◌, ◌^◌, ◌==◌, ◌∷◌, List, true, false, All, IfSome, OnSome, length, reverse, vec_len, vec_capacity};
 ghost use Rattle.linked_program.specs.CodeView.{memo_of};
 ghost use Rattle.positions.specs.Activations.{ShareFits, at};
 ghost use Rattle.positions.specs.Code.{loop_at};
 ghost use Rattle.positions.specs.Layers.{PlainLayer};
 ghost use Rattle.positions.specs.Setting.{Setting as PlainSetting};
 ghost use Rattle.positions.specs.Strands.{entry_by};
-ghost use Rattle.positions.specs.Tallies.{is_own};
 ghost use Rattle.activations.specs.Given.{lent};
 ghost use Rattle.activations.specs.Turned.{turned_by};
 ghost use Rattle.answered_loops.specs.Answered.{halved_to, is_by_turns};
@@ -16,16 +15,15 @@ ghost use Rattle.running_ahead.specs.Chains.{ChainsTo, HalfTo, IsClear, IsFewer,
 use crate::came::Chained;
 use crate::children::put_on_top;
 use crate::descent::{Part, Ready, descend};
+use crate::plain::may_go_back;
 use crate::turns::chain;
 use activations::activation::Activation;
-use activations::code::{instructions, loop_code};
+use activations::code::loop_code;
 use activations::setting::Setting;
 use activations::shares::Turns;
 use activations::spares::Spares;
 use evaluation::slot::Slot;
 use layers::layer::Layer;
-use layers::tally::Tally;
-use linked_program::code::Operation;
 use positions::phase::Phase;
 use positions::start::Start;
 use positions::work::{Loop, Share, Work};
@@ -71,7 +69,8 @@ pub(crate) fn half_at_once<V: View>(
     let Some(levels) = levels_of(machine, setting, code.callee, part) else {
         return false;
     };
-    if machine.path.reserve(levels + 1).is_err() || machine.below.reserve(levels + 1).is_err() {
+    let most = levels + 1 + machine.spares.nest.above.len();
+    if machine.path.reserve(most).is_err() || machine.below.reserve(most).is_err() {
         return false;
     }
     let Some(copies) = copies(&machine.top, &mut machine.spares, alloc, levels) else {
@@ -83,7 +82,7 @@ pub(crate) fn half_at_once<V: View>(
         code,
         Turns { site, share },
         &mut machine.top,
-        &mut machine.spares.child,
+        &mut machine.spares.nest,
         &mut machine.numbers,
     );
     if goes_on(
@@ -111,7 +110,7 @@ fn levels_of<V: View>(
     ensures plain { OnSome result (memo_of setting.entry.program.now.codes callee ≡ false) }
     ensures deep { OnSome result ((machine.now.top.left == 0) ≡ false) }
     ensures children { OnSome result (machine.now.top.children + 1024 < 2 ^ 64) }
-    ensures clear { OnSome result (IsClear 9 machine.now) }
+    ensures clear { OnSome result (IsClear machine.now) }
     ensures fewer { OnSome result (part.share.count ≤ 256) }
     ensures reached { IfSome result (λ n. part.share.count ≤ reach n part.grain) }
     ensures few { IfSome result (λ n. n ≤ 8) }
@@ -129,9 +128,9 @@ fn may_go<V: View>(machine: &Machine<V>, setting: Setting<'_>, callee: usize) ->
     ensures plain { result ≡ true → memo_of setting.entry.program.now.codes callee ≡ false }
     ensures deep { result ≡ true → (machine.now.top.left == 0) ≡ false }
     ensures children { result ≡ true → machine.now.top.children + 1024 < 2 ^ 64 }
-    ensures clear { result ≡ true → IsClear 9 machine.now }
+    ensures clear { result ≡ true → IsClear machine.now }
 {
-    if setting.program.is_memo(callee) || never_goes_back(setting, callee) {
+    if setting.program.is_memo(callee) || !may_go_back(setting.program, callee) {
         return false;
     }
     has_room(machine)
@@ -141,7 +140,7 @@ fn may_go<V: View>(machine: &Machine<V>, setting: Setting<'_>, callee: usize) ->
 pub(crate) fn has_room<V: View>(machine: &Machine<V>) -> bool
     ensures deep { result ≡ true → (machine.now.top.left == 0) ≡ false }
     ensures children { result ≡ true → machine.now.top.children + 1024 < 2 ^ 64 }
-    ensures clear { result ≡ true → IsClear 9 machine.now }
+    ensures clear { result ≡ true → IsClear machine.now }
 {
     if machine.top.left() == 0 {
         return false;
@@ -152,25 +151,11 @@ pub(crate) fn has_room<V: View>(machine: &Machine<V>) -> bool
     is_clear(machine)
 }
 
-/// Whether an instance of that procedure has more to do than it does by itself: then each iteration would stay, and what is made ready
-/// for the half would be of no use.
-fn never_goes_back(setting: Setting<'_>, callee: usize) -> bool {
-    for statement in instructions(setting.program, callee, 0, 0) {
-        match &statement.operation {
-            Operation::Enter(_, _, _, _) => return true,
-            Operation::Read(_, _) => return true,
-            Operation::Loop(_, _, _, _, _, _) => return true,
-            _ => {}
-        }
-    }
-    false
-}
-
-/// Whether the implicit syncs of the topmost instance, and of those up to nine levels above it, are passed and close no layer.
+/// Whether the implicit syncs of the topmost instance, and of those above it, are passed and close no layer.
 fn is_clear<V: View>(machine: &Machine<V>) -> bool
-    ensures clear { result ≡ true → IsClear 9 machine.now }
+    ensures clear { result ≡ true → IsClear machine.now }
 {
-    starts_below(machine) && is_apart(&machine.tally, machine.path.len())
+    starts_below(machine) && !machine.tally.owns_from(machine.path.len())
 }
 
 /// Whether the strand begins below its topmost instance.
@@ -182,19 +167,6 @@ fn starts_below<V: View>(machine: &Machine<V>) -> bool
         Start::Root => true,
         Start::Behind { depth, child: _ } => depth < size,
     }
-}
-
-/// Whether the topmost open layer is that of no instance whose name is so long, or up to nine longer.
-fn is_apart(tally: &Tally, size: usize) -> bool
-    requires room { size + 10 < 2 ^ 64 }
-    ensures apart { result ≡ true → (n : ℕ) → size ≤ n → n < size + 10 → is_own tally.now.opened n ≡ false }
-{
-    for more in 0..10usize {
-        if tally.is_own(size + more) {
-            return false;
-        }
-    }
-    true
 }
 
 /// After so many iterations of a half: whether it is over. Else the part of it that has the next one is put on top, and what that has
@@ -209,7 +181,7 @@ fn goes_on(
     came: Chained,
 ) -> bool
     requires fits { ShareFits ready.part.site ready.part.share }
-    requires fewer { IsFewer ready.part.share.count came }
+    requires fewer { IsFewer ready.part.share.count (length spares.old.nest.above.items) came }
     requires there { top.old.work ≡ Work.Halves ready.part.site ready.part.halvings ready.part.share }
     requires halved { length ready.copies.items ≤ ready.part.halvings }
     requires reached { ready.part.share.count ≤ reach (length ready.copies.items) ready.part.grain }
@@ -217,12 +189,12 @@ fn goes_on(
     requires copies { All (λ v. v.items ≡ top.old.slots) ready.copies.items }
     requires children { top.old.children + 1024 < 2 ^ 64 }
     requires few { ready.part.share.count ≤ 256 }
-    requires path_room { vec_len path.old + length ready.copies.items < vec_capacity path.old }
-    requires below_room { vec_len below.old + length ready.copies.items < vec_capacity below.old }
+    requires path_room { vec_len path.old + length ready.copies.items + length spares.old.nest.above.items < vec_capacity path.old }
+    requires below_room { vec_len below.old + length ready.copies.items + length spares.old.nest.above.items < vec_capacity below.old }
     ensures came { (setting : PlainSetting) (u v : PlainLayer)
         → ready.part.grain ≡ (loop_at setting.codes top.old.procedure ready.part.site).grain
         → is_by_turns setting.codes top.old ready.part.site ready.part.halvings ready.part.share.count ≡ false
-        → ChainsTo setting ready.part.site top.old ready.part.share.first ready.part.share.count came u spares.old.child v
+        → ChainsTo setting ready.part.site top.old ready.part.share.first ready.part.share.count came u (spares.old.nest.child ∷ spares.old.nest.above.items) v
         → HalfTo setting result top.old u path.old.items (reverse below.old.items)
         top.new v path.new.items (reverse below.new.items) }
 {
@@ -237,10 +209,10 @@ fn goes_on(
             turn_to(top, last.part, last.done);
             false
         }
-        Chained::Within(done) => {
+        Chained::Within(done, more) => {
             let last = descend(path, below, top, spares, alloc, ready, done);
             turn_to(top, last.part, last.done + 1);
-            put_on_top(path, below, top, spares, alloc);
+            put_on_top(path, below, top, spares, alloc, more);
             false
         }
     }

@@ -1,15 +1,16 @@
 //! Instances that are called, or spawned where they are called then: they stand on the strand only where they have more to do.
-ghost use Rattle.std.specs.Prelude.{◌≡◌, ◌+◌, ◌<◌, ◌≤◌, ◌^◌, ◌++◌, ◌∷◌, [], ℕ, List, true, false, length, map, vec_len, vec_capacity};
+ghost use Rattle.std.specs.Prelude.{◌≡◌, ◌+◌, ◌<◌, ◌≤◌, ◌++◌, ◌∷◌, ◌^◌, [], ℕ, suc, List, true, false, length, map, reverse, vec_len, vec_capacity};
 ghost use Rattle.linked_program.specs.CodeView.{expression as plain, slots_of, memo_of};
 ghost use Rattle.evaluation.specs.Values.{entry_at};
-ghost use Rattle.positions.specs.Strands.{entry_by};
-ghost use Rattle.positions.specs.Tallies.{is_own};
+ghost use Rattle.positions.specs.Layers.{PlainLayer};
+ghost use Rattle.positions.specs.Strands.{PlainStrand, entry_by};
 ghost use Rattle.positions.specs.Advance.{called, evaluated, performed};
 ghost use Rattle.activations.specs.Given.{lent};
-ghost use Rattle.own_statements.specs.Recursion.{HasRoomAbove};
+ghost use Rattle.own_statements.specs.Paths.{HasRoomAbove, stacked, topped};
 ghost use Rattle.own_statements.specs.Runs.{IsBody};
 ghost use Rattle.small_steps.specs.Steps.{nested_plain};
 ghost use Rattle.running_ahead.specs.Ahead.{GoesAhead, GoesAheadBy, CameBy, is_spawned};
+ghost use Rattle.running_ahead.specs.Chains.{under};
 
 use crate::came::Came;
 use activations::activation::{Activation, next_of};
@@ -17,13 +18,13 @@ use activations::code::instructions;
 use activations::setting::Setting;
 use activations::spares::Spares;
 use layers::layer::DEEPEST;
-use layers::tally::Tally;
 use linked_program::checked::Checked;
 use linked_program::code::{Expression, Instruction, Operation};
 use meaning::tree::Way;
 use own_statements::filling::fills;
+use own_statements::ran::Ended;
 use own_statements::recursion::{Enters, Own, called, calls_itself};
-use own_statements::runs::call;
+use own_statements::runs::{Callee as Begun, call};
 use positions::phase::Phase;
 use positions::start::Start;
 use positions::work::{Position, Work};
@@ -259,19 +260,15 @@ fn find_at_once<V: View>(
 }
 
 /// Whether no instance above the topmost one begins the strand or owns the topmost layer.
-fn has_room_above<V: View>(machine: &Machine<V>) -> bool
-    ensures room { result ≡ true → HasRoomAbove machine.now.top.left machine.now }
+#[inline(always)]
+pub(crate) fn has_room_above<V: View>(machine: &Machine<V>) -> bool
+    ensures room { result ≡ true → HasRoomAbove machine.now }
 {
-    if !begins_no_higher(machine) {
-        return false;
-    }
-    if is_owned_below(&machine.tally, machine.path.len()) {
-        return true;
-    }
-    is_owned_by_none(&machine.tally, machine.path.len(), machine.top.left())
+    begins_no_higher(machine) && !machine.tally.owns_from(machine.path.len() + 1)
 }
 
 /// Whether the strand begins in no instance above its topmost one.
+#[inline(always)]
 fn begins_no_higher<V: View>(machine: &Machine<V>) -> bool
     ensures entry { result ≡ true → (path : List ℕ) → length machine.now.path < length path → entry_by machine.now.start path ≡ false }
 {
@@ -279,31 +276,6 @@ fn begins_no_higher<V: View>(machine: &Machine<V>) -> bool
         Start::Root => true,
         Start::Behind { depth, child: _ } => depth <= machine.path.len(),
     }
-}
-
-/// Whether the topmost layer is that of an instance whose name is no longer than that.
-fn is_owned_below(tally: &Tally, size: usize) -> bool
-    ensures below { result ≡ true → (n : ℕ) → size < n → is_own tally.now.opened n ≡ false }
-{
-    for less in 0..size {
-        if tally.is_own(size - less) {
-            return true;
-        }
-    }
-    false
-}
-
-/// Whether the topmost layer is that of no instance whose name is longer than that, by so much at most.
-fn is_owned_by_none(tally: &Tally, size: usize, more: u32) -> bool
-    requires room { size + more + 1 < 2 ^ 64 }
-    ensures none { result ≡ true → (n : ℕ) → n < more → is_own tally.now.opened (size + 1 + n) ≡ false }
-{
-    for behind in 0..more {
-        if tally.is_own(size + 1 + behind as usize) {
-            return false;
-        }
-    }
-    true
 }
 
 /// Calls that instance, whose procedure isn't marked memo, and does the statements that it does by itself. It stands on the strand
@@ -329,18 +301,19 @@ fn child_ahead<V: View>(
     ensures running { machine.new.phase ≡ Phase.Running }
 {
     let left = machine.top.left();
-    if left == 0 || ends_otherwise(machine) {
+    if left == 0 || !has_room_above(machine) {
         return Came::Nowhere;
     }
     let Some(_) = machine.top.children().checked_add(1) else {
         return Came::Nowhere;
     };
-    if machine.path.reserve(1).is_err() || machine.below.reserve(1).is_err() {
+    let most = machine.spares.nest.above.len() + 1;
+    if machine.path.reserve(most).is_err() || machine.below.reserve(most).is_err() {
         return Came::Nowhere;
     }
     if !fills(
         &mut machine.layer,
-        &mut machine.spares.child,
+        &mut machine.spares.nest.child,
         &machine.top,
         body.size,
         callee.arguments,
@@ -351,33 +324,39 @@ fn child_ahead<V: View>(
     machine
         .top
         .wait_at(is_spawn(callee.way), callee.into, callee.next);
+    let begun = Begun {
+        procedure: callee.procedure,
+        body: body.statements,
+        left: left - 1,
+    };
     match call(
         &mut machine.layer,
         setting,
-        body.statements,
-        callee.procedure,
-        left - 1,
-        &mut machine.spares.child,
+        begun,
+        &mut machine.spares.nest.child,
+        &mut machine.spares.nest.above,
         &mut machine.numbers,
     ) {
-        Some(value) => {
+        Ended::Gave(value) => {
             machine.top.receive(value);
             Came::Back
         }
-        None => {
+        Ended::Stopped(more) => {
             put_on_top(
                 &mut machine.path,
                 &mut machine.below,
                 &mut machine.top,
                 &mut machine.spares,
                 alloc,
+                more,
             );
             Came::Stays
         }
     }
 }
 
-/// Puts the instance that was begun on top of the one that has called it and waits for it. There is room for both.
+/// Puts the instance that was begun on top of the one that has called it and waits for it, and on top of that so many others, each of
+/// which was called by the one below it. There is room for them.
 #[inline(never)]
 pub(crate) fn put_on_top(
     path: &mut Vec<usize>,
@@ -385,31 +364,62 @@ pub(crate) fn put_on_top(
     top: &mut Activation,
     spares: &mut Spares,
     alloc: Global,
+    more: usize,
+)
+    requires path_room { vec_len path.old + more < vec_capacity path.old }
+    requires below_room { vec_len below.old + more < vec_capacity below.old }
+    ensures stacked { (m : PlainLayer) (s : PlainStrand) → s.path ≡ path.old.items → s.below ≡ reverse below.old.items
+        → stacked (suc more) top.old (spares.old.nest.child ∷ spares.old.nest.above.items) m s
+        ≡ topped Phase.Running top.new m (under path.new.items (reverse below.new.items) s) }
+{
+    let blank = spares.blank(alloc);
+    let child = mem::replace(&mut spares.nest.child, blank);
+    put_over(path, below, top, child);
+    put_all(path, below, top, spares, alloc, more);
+}
+
+/// Puts so many instances that were begun on top of one that waits, each of which was called by the one below it. There is room for them.
+#[inline(never)]
+pub(crate) fn put_all(
+    path: &mut Vec<usize>,
+    below: &mut Vec<Activation>,
+    top: &mut Activation,
+    spares: &mut Spares,
+    alloc: Global,
+    more: usize,
+)
+    requires path_room { vec_len path.old + more ≤ vec_capacity path.old }
+    requires below_room { vec_len below.old + more ≤ vec_capacity below.old }
+    ensures stacked { (m : PlainLayer) (s : PlainStrand) → s.path ≡ path.old.items → s.below ≡ reverse below.old.items
+        → stacked more top.old spares.old.nest.above.items m s
+        ≡ topped Phase.Running top.new m (under path.new.items (reverse below.new.items) s) }
+{
+    for place in 0..more {
+        if place >= spares.nest.above.len() {
+            return;
+        }
+        let blank = spares.blank(alloc);
+        let next = mem::replace(&mut spares.nest.above[place], blank);
+        put_over(path, below, top, next);
+    }
+}
+
+/// Puts an instance on top of the one that has called it and waits for it. There is room for both.
+#[inline(always)]
+fn put_over(
+    path: &mut Vec<usize>,
+    below: &mut Vec<Activation>,
+    top: &mut Activation,
+    next: Activation,
 )
     requires path_room { vec_len path.old < vec_capacity path.old }
     requires below_room { vec_len below.old < vec_capacity below.old }
     ensures path { path.new.items ≡ path.old.items ++ top.old.children ∷ [] }
-    ensures top { top.new ≡ spares.old.child }
+    ensures path_capacity { vec_capacity path.new ≡ vec_capacity path.old }
+    ensures top { top.new ≡ next }
     ensures below { below.new.items ≡ below.old.items ++ top.old ∷ [] }
+    ensures below_capacity { vec_capacity below.new ≡ vec_capacity below.old }
 {
     path.push_reserved(top.children());
-    let blank = spares.blank(alloc);
-    let child = mem::replace(&mut spares.child, blank);
-    below.push_reserved(mem::replace(top, child));
-}
-
-/// Whether a called child of the topmost instance would end otherwise than by going back to it: it is where the strand begins,
-/// or the topmost layer is its own.
-pub(crate) fn ends_otherwise<V: View>(machine: &Machine<V>) -> bool
-    ensures entry { result ≡ false → (number : ℕ) → entry_by machine.now.start (machine.now.path ++ number ∷ []) ≡ false }
-    ensures own { result ≡ false → (number : ℕ) → is_own machine.now.tally.opened (length (machine.now.path ++ number ∷ [])) ≡ false }
-{
-    let length = machine.path.len() + 1;
-    if machine.tally.is_own(length) {
-        return true;
-    }
-    match machine.start {
-        Start::Root => false,
-        Start::Behind { depth, child: _ } => depth == length,
-    }
+    below.push_reserved(mem::replace(top, next));
 }

@@ -67,7 +67,7 @@ fn level(
     ensures procedure { top.new.procedure ≡ top.old.procedure }
     ensures slots { top.new.slots ≡ top.old.slots }
     ensures children { top.new.children ≤ top.old.children }
-    ensures child { spares.new.child ≡ spares.old.child }
+    ensures nest { spares.new.nest ≡ spares.old.nest }
     ensures path_capacity { vec_capacity path.new ≡ vec_capacity path.old }
     ensures below_capacity { vec_capacity below.new ≡ vec_capacity below.old }
     ensures path_len { vec_len path.new ≤ vec_len path.old + 1 }
@@ -77,7 +77,7 @@ fn level(
     ensures reaches { (setting : PlainSetting) (s : PlainStrand) (u v : PlainLayer) (r : ℕ)
         → begun.part.grain ≡ (loop_at setting.codes top.old.procedure begun.part.site).grain
         → begun.part.share.count ≤ reach (suc r) begun.part.grain
-        → IsClear (suc (suc r)) s → s.path ≡ path.old.items → s.below ≡ reverse below.old.items
+        → IsClear s → s.path ≡ path.old.items → s.below ≡ reverse below.old.items
         → AreTurns setting begun.part.site top.old.procedure top.old.slots top.old.left begun.part.share.first u begun.done v
         → Reaches setting begun.part.site r s begun.part.halvings begun.part.share top.old u v
         path.new.items (reverse below.new.items) begun.done
@@ -85,7 +85,7 @@ fn level(
     ensures arrives { (setting : PlainSetting) (s : PlainStrand) (x y : Gathered) (r : ℕ)
         → begun.part.grain ≡ (loop_at setting.codes top.old.procedure begun.part.site).grain
         → begun.part.share.count ≤ reach (suc r) begun.part.grain
-        → IsClear (suc (suc r)) (gathering x s) → s.path ≡ path.old.items → s.below ≡ reverse below.old.items
+        → IsClear (gathering x s) → s.path ≡ path.old.items → s.below ≡ reverse below.old.items
         → AreRecorded setting begun.part.site top.old.procedure top.old.slots top.old.left begun.part.share.first x begun.done y
         → Arrives setting begun.part.site r s begun.part.halvings begun.part.share top.old x y
         path.new.items (reverse below.new.items) begun.done
@@ -223,19 +223,23 @@ pub fn descend(
     ensures fewer { result.part.share.count ≤ ready.part.share.count }
     ensures procedure { top.new.procedure ≡ top.old.procedure }
     ensures children { top.new.children ≤ top.old.children }
-    ensures child { spares.new.child ≡ spares.old.child }
+    ensures nest { spares.new.nest ≡ spares.old.nest }
     ensures path_room { vec_len path.new < vec_capacity path.new }
     ensures below_room { vec_len below.new < vec_capacity below.new }
+    ensures path_capacity { vec_capacity path.new ≡ vec_capacity path.old }
+    ensures below_capacity { vec_capacity below.new ≡ vec_capacity below.old }
+    ensures path_len { vec_len path.new ≤ vec_len path.old + length ready.copies.items }
+    ensures below_len { vec_len below.new ≤ vec_len below.old + length ready.copies.items }
     ensures reaches { (setting : PlainSetting) (s : PlainStrand) (u v : PlainLayer)
         → ready.part.grain ≡ (loop_at setting.codes top.old.procedure ready.part.site).grain
-        → IsClear (suc (length ready.copies.items)) s → s.path ≡ path.old.items → s.below ≡ reverse below.old.items
+        → IsClear s → s.path ≡ path.old.items → s.below ≡ reverse below.old.items
         → AreTurns setting ready.part.site top.old.procedure top.old.slots top.old.left ready.part.share.first u done v
         → Reaches setting ready.part.site 0 s ready.part.halvings ready.part.share top.old u v
         path.new.items (reverse below.new.items) done
         result.part.halvings result.part.share top.new result.done }
     ensures arrives { (setting : PlainSetting) (s : PlainStrand) (x y : Gathered)
         → ready.part.grain ≡ (loop_at setting.codes top.old.procedure ready.part.site).grain
-        → IsClear (suc (length ready.copies.items)) (gathering x s) → s.path ≡ path.old.items → s.below ≡ reverse below.old.items
+        → IsClear (gathering x s) → s.path ≡ path.old.items → s.below ≡ reverse below.old.items
         → AreRecorded setting ready.part.site top.old.procedure top.old.slots top.old.left ready.part.share.first x done y
         → Arrives setting ready.part.site 0 s ready.part.halvings ready.part.share top.old x y
         path.new.items (reverse below.new.items) done

@@ -34,7 +34,7 @@ pub fn may_record<V: View>(
     ensures counted { result ≡ true → IsCounted machine.now.top.slots code.entry.variable (map plain code.entry.arguments.now) }
     ensures deep { result ≡ true → (machine.now.top.left == 0) ≡ false }
     ensures children { result ≡ true → machine.now.top.children + 1024 < 2 ^ 64 }
-    ensures clear { result ≡ true → IsClear 9 machine.now }
+    ensures clear { result ≡ true → IsClear machine.now }
     ensures few { result ≡ true → count ≤ 256 }
 {
     if count > MOST || !are_recorded(program, code.callee) {
@@ -67,13 +67,14 @@ pub fn make_ready<V: View>(machine: &mut Machine<V>, alloc: Global, size: usize)
     if machine.arguments.reserve(1).is_err() {
         return false;
     }
+    machine.spares.make_nest(alloc);
     make_child(&mut machine.spares, alloc, size)
 }
 
 /// Has an instance ready that has so many slots; not where memory is refused.
 #[inline(always)]
 fn make_child(spares: &mut Spares, alloc: Global, size: usize) -> bool {
-    if spares.child.slots().len() == size {
+    if spares.nest.child.slots().len() == size {
         return true;
     }
     let mut slots = spares.slots(alloc);
@@ -82,7 +83,7 @@ fn make_child(spares: &mut Spares, alloc: Global, size: usize) -> bool {
     }
     let places = spares.places(alloc);
     let child = Activation::new(0, slots, places, Work::Over, 0);
-    let over = mem::replace(&mut spares.child, child);
+    let over = mem::replace(&mut spares.nest.child, child);
     spares.keep(over);
     true
 }

@@ -1,21 +1,23 @@
 //! Iterations of a loop one after another, each of which does its statements by itself.
-ghost use Rattle.std.specs.Prelude.{◌≡◌, ◌≤◌, ◌==◌, true, false, map};
+ghost use Rattle.std.specs.Prelude.{◌≡◌, ◌≤◌, ◌==◌, ◌∷◌, true, false, length, map};
 ghost use Rattle.linked_program.specs.CodeView.{expression as plain, memo_of};
 ghost use Rattle.positions.specs.Activations.{ShareFits};
 ghost use Rattle.positions.specs.Code.{loop_at};
 ghost use Rattle.activations.specs.Given.{lent, loop_of};
 ghost use Rattle.own_statements.specs.Fills.{IsCounted};
-ghost use Rattle.running_ahead.specs.Ahead.{TurnsTo};
+ghost use Rattle.running_ahead.specs.Ahead.{StaysBy, TurnsTo};
 ghost use Rattle.running_ahead.specs.Chains.{ChainsTo, IsFewer};
 
-use crate::came::{Came, Chained};
+use crate::came::{Chained, Gone};
 use activations::activation::Activation;
 use activations::code::{LoopCode, instructions, loop_code};
+use activations::nest::Nest;
 use activations::setting::Setting;
 use activations::shares::{Turns, behind, number_of};
 use layers::layer::Layer;
 use own_statements::filling::{Iterations, fills_turn, is_counted};
-use own_statements::runs::call;
+use own_statements::ran::Ended;
+use own_statements::runs::{Callee, call};
 use positions::work::{Loop, Share, Work};
 use view_pool::View;
 
@@ -33,38 +35,40 @@ pub fn turns<V: View>(
     site: Loop,
     share: Share,
     top: &mut Activation,
-    child: &mut Activation,
+    nest: &mut Nest,
     numbers: &mut Vec<i64>,
-) -> Came
+) -> Gone
     requires fits { ShareFits site share }
     requires there { top.old.work ≡ Work.Turns site share }
     requires kinds { layer.old.kinds ≡ setting.program.now.kinds }
-    ensures came { TurnsTo (lent setting.entry) result top.old layer.old child.new top.new layer.new }
+    ensures came { TurnsTo (lent setting.entry) result top.old layer.old (nest.new.child ∷ nest.new.above.items) top.new layer.new }
+    ensures few { StaysBy (length nest.old.above.items) result }
+    ensures long { length nest.new.above.items ≡ length nest.old.above.items }
 {
     let code = loop_code(setting.program, top.procedure(), site);
     if top.left() == 0 || setting.program.is_memo(code.callee) {
-        return Came::Nowhere;
+        return Gone::Nowhere;
     }
     let Some(_) = top.children().checked_add(ITERATIONS as usize) else {
-        return Came::Nowhere;
+        return Gone::Nowhere;
     };
     let some = Turns {
         site,
         share: firsts(site, share),
     };
     let most = some.share.count;
-    match chain(layer, setting, code, some, top, child, numbers) {
+    match chain(layer, setting, code, some, top, nest, numbers) {
         Chained::Whole => {
             top.turns(site, share, most);
-            Came::Back
+            Gone::Back
         }
         Chained::Before(done) => {
             top.turns(site, share, done);
-            Came::Nowhere
+            Gone::Nowhere
         }
-        Chained::Within(done) => {
+        Chained::Within(done, more) => {
             top.turns(site, share, done + 1);
-            Came::Stays
+            Gone::Stays(more)
         }
     }
 }
@@ -93,7 +97,7 @@ pub(crate) fn chain<V: View>(
     code: LoopCode<'_>,
     turns: Turns,
     top: &mut Activation,
-    child: &mut Activation,
+    nest: &mut Nest,
     numbers: &mut Vec<i64>,
 ) -> Chained
     requires fits { ShareFits turns.site turns.share }
@@ -101,14 +105,16 @@ pub(crate) fn chain<V: View>(
     requires plain { memo_of setting.program.now.codes code.callee ≡ false }
     requires deep { (top.old.left == 0) ≡ false }
     requires kinds { layer.old.kinds ≡ setting.program.now.kinds }
-    ensures came { ChainsTo (lent setting.entry) turns.site top.old turns.share.first turns.share.count result layer.old child.new layer.new }
-    ensures fewer { IsFewer turns.share.count result }
+    ensures came { ChainsTo (lent setting.entry) turns.site top.old turns.share.first turns.share.count result layer.old
+        (nest.new.child ∷ nest.new.above.items) layer.new }
+    ensures fewer { IsFewer turns.share.count (length nest.old.above.items) result }
+    ensures long { length nest.new.above.items ≡ length nest.old.above.items }
     ensures top { top.new ≡ top.old }
 {
     if is_counted(top, code.variable, code.arguments) {
-        return chain_by::<V, true>(layer, setting, code, turns, top, child, numbers);
+        return chain_by::<V, true>(layer, setting, code, turns, top, nest, numbers);
     }
-    chain_by::<V, false>(layer, setting, code, turns, top, child, numbers)
+    chain_by::<V, false>(layer, setting, code, turns, top, nest, numbers)
 }
 
 /// Calls that share of a loop's iterations so, where it is said whether they are `counted`: the loop over those that are has no more
@@ -120,7 +126,7 @@ fn chain_by<V: View, const COUNTED: bool>(
     code: LoopCode<'_>,
     turns: Turns,
     top: &mut Activation,
-    child: &mut Activation,
+    nest: &mut Nest,
     numbers: &mut Vec<i64>,
 ) -> Chained
     requires counted { COUNTED ≡ true → IsCounted top.old.slots code.variable (map plain code.arguments.now) }
@@ -129,13 +135,18 @@ fn chain_by<V: View, const COUNTED: bool>(
     requires plain { memo_of setting.program.now.codes code.callee ≡ false }
     requires deep { (top.old.left == 0) ≡ false }
     requires kinds { layer.old.kinds ≡ setting.program.now.kinds }
-    ensures came { ChainsTo (lent setting.entry) turns.site top.old turns.share.first turns.share.count result layer.old child.new layer.new }
-    ensures fewer { IsFewer turns.share.count result }
+    ensures came { ChainsTo (lent setting.entry) turns.site top.old turns.share.first turns.share.count result layer.old
+        (nest.new.child ∷ nest.new.above.items) layer.new }
+    ensures fewer { IsFewer turns.share.count (length nest.old.above.items) result }
+    ensures long { length nest.new.above.items ≡ length nest.old.above.items }
     ensures top { top.new ≡ top.old }
 {
-    let left = top.left();
+    let callee = Callee {
+        procedure: code.callee,
+        body: instructions(setting.program, code.callee, 0, 0),
+        left: top.left() - 1,
+    };
     let size = setting.program.slots(code.callee);
-    let body = instructions(setting.program, code.callee, 0, 0);
     let iterations = Iterations {
         size,
         arguments: code.arguments,
@@ -145,12 +156,19 @@ fn chain_by<V: View, const COUNTED: bool>(
     };
     for done in 0..turns.share.count {
         let number = number_of(turns.site, behind(turns.site, turns.share, done));
-        if !fills_turn(layer, child, top, iterations, number) {
+        if !fills_turn(layer, &mut nest.child, top, iterations, number) {
             return Chained::Before(done);
         }
-        match call(layer, setting, body, code.callee, left - 1, child, numbers) {
-            Some(_) => {}
-            None => return Chained::Within(done),
+        match call(
+            layer,
+            setting,
+            callee,
+            &mut nest.child,
+            &mut nest.above,
+            numbers,
+        ) {
+            Ended::Gave(_) => {}
+            Ended::Stopped(more) => return Chained::Within(done, more),
         }
     }
     Chained::Whole

@@ -17,7 +17,7 @@ returns-in-Ok-clause-leaf g c done =
     let v = c.in-Some.value in
     let fits : FitsSigned w64 v = search rules in
     let is : to_z w64 (of_z w64 v) ≡ v = to_z-of_z fits in
-    let child = c.value_of.new.child in
+    let child = c.value_of.new.nest.child in
     let own = c.value_of.new.own in
     let came : ComesTo S true (made f.callee (slots_for f.size (f.number ∷ [])) (Block (first_of 0)) f.left) (entering f.callee (depth_limit - f.left) (blank true S.kinds (length S.codes))) (Some v) child own =
     subst (λ (z : PlainLayer). ComesTo S true (made f.callee (slots_for f.size (f.number ∷ [])) (Block (first_of 0)) f.left) (entering f.callee (depth_limit - f.left) z) (Some v) child own) c.requires.blank c.in-Some.ensures.came in

@@ -25,7 +25,7 @@ use Rattle.own_statements.proofs.OwnCalls.{comes_next, comes_gave, comes_over, c
 use Rattle.own_statements.proofs.recursion.+calling.Goals as goal
 
 pub value_of-loop-index-init : goal.value_of-loop-index-init
-value_of-loop-index-init t c = record { size = refl; come = λ ts rs m. record { children = 0; spawned = false; into = None; way = λ s may room. here } }
+value_of-loop-index-init t c = record { size = refl; come = λ ts rs m. record { children = 0; spawned = false; into = None; way = λ s may. here } }
 
 pub value_of-loop-index-preserved : goal.value_of-loop-index-preserved
 value_of-loop-index-preserved t c =

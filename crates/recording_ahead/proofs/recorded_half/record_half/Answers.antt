@@ -32,7 +32,7 @@ record_part-requires-clause-children g c κs within =
     subst (λ (s : PlainStrand). s.top.children + 1024 < 2 ^ 64) (sym c.make_parts.ensures.same) c.in-Some.ensures.children
 
 pub record_part-requires-clause-clear : goal.record_part-requires-clause-clear
-record_part-requires-clause-clear g c κs within = subst (λ (s : PlainStrand). IsClear 9 s) (sym c.make_parts.ensures.same) c.in-Some.ensures.clear
+record_part-requires-clause-clear g c κs within = subst (λ (s : PlainStrand). IsClear s) (sym c.make_parts.ensures.same) c.in-Some.ensures.clear
 
 pub record_part-requires-clause-copies : goal.record_part-requires-clause-copies
 record_part-requires-clause-copies g c κs within =

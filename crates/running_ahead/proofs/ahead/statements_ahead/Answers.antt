@@ -1,33 +1,45 @@
-use Rattle.std.proofs.Common.{rules, ◌≡◌, ℤ, to_z, of_z, w64, Some, None, reverse, refl, sym, ap, ◌∙◌, subst}
+use Rattle.std.proofs.Common.{rules, ◌≡◌, ℤ, to_z, of_z, w64, Some, List, reverse, refl, sym, ap, ◌∙◌, subst}
 use Rattle.positions.specs.declared.phase.Phase.{Phase}
 use Rattle.positions.specs.declared.phase.Phase.TheVariants.{Running, Returning}
+use Rattle.positions.specs.Activations.{PlainActivation}
 use Rattle.positions.specs.Strands.{PlainStrand}
 use Rattle.activations.specs.Given.{lent}
-use Rattle.own_statements.specs.Paths.{MayPass, ComesTo, topped}
+use Rattle.own_statements.specs.Paths.{MayPass, ComesTo, StopsBy, stacked, topped}
 use Rattle.running_ahead.specs.Ahead.{IsAhead}
-use Rattle.running_ahead.proofs.Paths.{come_ahead}
+use Rattle.running_ahead.specs.Chains.{under}
+use Rattle.running_ahead.proofs.Paths.{come_ahead, stop_ahead, same_parts}
 use Rattle.running_ahead.proofs.ahead.statements_ahead.Goals as goal
 
-pub returns-in-Some-clause-ahead : goal.returns-in-Some-clause-ahead
-returns-in-Some-clause-ahead g c =
+pub returns-in-Gave-clause-ahead : goal.returns-in-Gave-clause-ahead
+returns-in-Gave-clause-ahead g c =
     let S = lent c.args.setting in
     let s : PlainStrand = record { start = c.machine.inside.start; layer = c.machine.inside.layer; lower = reverse c.machine.inside.lower.items; path = c.machine.inside.path.items; top = c.machine.inside.top; below = reverse c.machine.inside.below.items; phase = c.machine.inside.phase; arguments = c.machine.inside.arguments.items; tally = c.machine.inside.tally } in
     let passes = c.passes_syncs-passes.result in
-    let v : ℤ = to_z w64 (of_z w64 c.in-Some.value) in
-    let same : c.in-Some.value ≡ v = search rules in
+    let v : ℤ = to_z w64 (of_z w64 c.in-Gave.value) in
+    let same : c.in-Gave.value ≡ v = search rules in
     let running : s.phase ≡ Running = ap (λ (z : PlainStrand). z.phase) c.machine.view_is ∙ c.requires.running in
     let may : MayPass passes s = subst (MayPass passes) (sym c.machine.view_is) c.passes_syncs-passes.ensures.passes in
-    let come : ComesTo S passes s.top s.layer (Some v) c.run.new.top c.run.new.layer = subst (λ (x : ℤ). ComesTo S passes s.top s.layer (Some x) c.run.new.top c.run.new.layer) same c.in-Some.ensures.ahead in
-    let t = topped (Returning v) c.run.new.top c.run.new.layer s in
-    subst (λ (z : PlainStrand). IsAhead S z t) c.machine.view_is (come_ahead S passes (Some v) s c.run.new.top c.run.new.layer t running may come c.run.ensures.kinds refl)
+    let come : ComesTo S passes s.top s.layer (Some v) c.run.new.top c.run.new.layer = subst (λ (x : ℤ). ComesTo S passes s.top s.layer (Some x) c.run.new.top c.run.new.layer) same c.in-Gave.ensures.ahead in
+    let items : c.has_room.new.below.items ≡ c.machine.inside.below.items = search rules in
+    let below : reverse c.has_room.new.below.items ≡ s.below = ap (λ (xs : List PlainActivation). reverse xs) items in
+    let t = record (topped (Returning v) c.run.new.top c.run.new.layer s) { path = c.has_room.new.path.items; below = reverse c.has_room.new.below.items } in
+    let ends : t ≡ topped (Returning v) c.run.new.top c.run.new.layer s = same_parts s c.run.new.layer _ _ _ _ _ _ _ _ c.has_room.ensures.path refl below refl in
+    subst (λ (z : PlainStrand). IsAhead S z t) c.machine.view_is (come_ahead S passes (Some v) s c.run.new.top c.run.new.layer t running may come c.run.ensures.kinds ends)
 
-pub returns-in-None-clause-ahead : goal.returns-in-None-clause-ahead
-returns-in-None-clause-ahead g c =
+pub returns-in-Stopped-2-clause-ahead : goal.returns-in-Stopped-2-clause-ahead
+returns-in-Stopped-2-clause-ahead g c =
     let S = lent c.args.setting in
     let s : PlainStrand = record { start = c.machine.inside.start; layer = c.machine.inside.layer; lower = reverse c.machine.inside.lower.items; path = c.machine.inside.path.items; top = c.machine.inside.top; below = reverse c.machine.inside.below.items; phase = c.machine.inside.phase; arguments = c.machine.inside.arguments.items; tally = c.machine.inside.tally } in
     let passes = c.passes_syncs-passes.result in
+    let more = c.in-Stopped-2.more in
     let running : s.phase ≡ Running = ap (λ (z : PlainStrand). z.phase) c.machine.view_is ∙ c.requires.running in
     let may : MayPass passes s = subst (MayPass passes) (sym c.machine.view_is) c.passes_syncs-passes.ensures.passes in
-    let t = topped s.phase c.run.new.top c.run.new.layer s in
-    subst (λ (z : PlainStrand). IsAhead S z t) c.machine.view_is
-    (come_ahead S passes None s c.run.new.top c.run.new.layer t running may c.in-None.ensures.ahead c.run.ensures.kinds (ap (λ (f : Phase). topped f c.run.new.top c.run.new.layer s) running))
+    let path : s.path ≡ c.has_room.new.path.items = sym c.has_room.ensures.path in
+    let items : c.machine.inside.below.items ≡ c.has_room.new.below.items = search rules in
+    let below : s.below ≡ reverse c.has_room.new.below.items = ap (λ (xs : List PlainActivation). reverse xs) items in
+    let ys : List PlainActivation = c.run.new.above in
+    let stacks : stacked more c.run.new.top ys c.run.new.layer s ≡ topped Running c.put_all.new.top c.run.new.layer (under c.put_all.new.path.items (reverse c.put_all.new.below.items) s) =
+    c.put_all.ensures.stacked c.run.new.layer s path below in
+    let t = topped s.phase c.put_all.new.top c.run.new.layer (under c.put_all.new.path.items (reverse c.put_all.new.below.items) s) in
+    let ends : t ≡ stacked more c.run.new.top ys c.run.new.layer s = ap (λ (f : Phase). topped f c.put_all.new.top c.run.new.layer (under c.put_all.new.path.items (reverse c.put_all.new.below.items) s)) running ∙ sym stacks in
+    subst (λ (z : PlainStrand). IsAhead S z t) c.machine.view_is (stop_ahead S passes s more c.run.new.top ys c.run.new.layer t running may c.in-Stopped-2.ensures.ahead c.run.ensures.kinds ends)

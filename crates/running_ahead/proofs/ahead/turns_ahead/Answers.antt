@@ -1,14 +1,13 @@
-use Rattle.std.proofs.Common.{rules, ◌≡◌, ◌++◌, ◌∷◌, [], ◌==◌, true, false, List, pos, length, reverse, refl, sym, ap, ◌∙◌, subst}
-use Rattle.std.proofs.lemmas.List.{reverse-append}
+use Rattle.std.proofs.Common.{rules, ◌≡◌, ◌∷◌, ◌==◌, suc, true, List, pos, reverse, refl, sym, ap, ◌∙◌, subst}
 use Rattle.positions.specs.declared.phase.Phase.{Phase}
 use Rattle.positions.specs.declared.phase.Phase.TheVariants.{Returning, Running}
 use Rattle.positions.specs.Activations.{PlainActivation}
-use Rattle.positions.specs.Strands.{PlainStrand, entry_by}
-use Rattle.positions.specs.Tallies.{is_own}
+use Rattle.positions.specs.Strands.{PlainStrand}
 use Rattle.positions.specs.Advance.{in_phase}
 use Rattle.activations.specs.Given.{lent}
-use Rattle.own_statements.specs.Paths.{topped}
-use Rattle.running_ahead.specs.Ahead.{IsAhead, ComeBack}
+use Rattle.own_statements.specs.Paths.{HasRoomAbove, stacked, topped}
+use Rattle.running_ahead.specs.Chains.{under}
+use Rattle.running_ahead.specs.Ahead.{IsAhead}
 use Rattle.running_ahead.proofs.Paths.{same_parts, loop_over, turned_next}
 use Rattle.running_ahead.proofs.ahead.turns_ahead.Goals as goal
 
@@ -30,10 +29,7 @@ returns-in-Back g c =
     let phase : s.phase ≡ Running = ap (λ (z : PlainStrand). z.phase) c.machine.view_is ∙ c.requires.running in
     let leads = λ (t z : PlainStrand). IsAhead S z t in
     let begins : topped Running s.top s.layer s ≡ s = ap (λ (f : Phase). in_phase f s) (sym phase) in
-    let home : ComeBack s = record {
-      entry = λ n. subst (λ (z : PlainStrand). entry_by z.start (z.path ++ n ∷ []) ≡ false) (sym c.machine.view_is) (c.if-ends_otherwise.ensures.entry refl n);
-      own = λ n. subst (λ (z : PlainStrand). is_own z.tally.opened (length (z.path ++ n ∷ [])) ≡ false) (sym c.machine.view_is) (c.if-ends_otherwise.ensures.own refl n);
-    } in
+    let home : HasRoomAbove s = subst HasRoomAbove (sym c.machine.view_is) (c.if-not-has_room_above.ensures.room refl) in
     let path : c.reserve.new.self.items ≡ s.path = search rules in
     let items : c.reserve-else-is_err.new.self.items ≡ c.machine.inside.below.items = search rules in
     let below : reverse c.reserve-else-is_err.new.self.items ≡ s.below = ap (λ (xs : List PlainActivation). reverse xs) items in
@@ -50,10 +46,7 @@ returns-in-Nowhere g c =
     let phase : s.phase ≡ Running = ap (λ (z : PlainStrand). z.phase) c.machine.view_is ∙ c.requires.running in
     let leads = λ (t z : PlainStrand). IsAhead S z t in
     let begins : topped Running s.top s.layer s ≡ s = ap (λ (f : Phase). in_phase f s) (sym phase) in
-    let home : ComeBack s = record {
-      entry = λ n. subst (λ (z : PlainStrand). entry_by z.start (z.path ++ n ∷ []) ≡ false) (sym c.machine.view_is) (c.if-ends_otherwise.ensures.entry refl n);
-      own = λ n. subst (λ (z : PlainStrand). is_own z.tally.opened (length (z.path ++ n ∷ [])) ≡ false) (sym c.machine.view_is) (c.if-ends_otherwise.ensures.own refl n);
-    } in
+    let home : HasRoomAbove s = subst HasRoomAbove (sym c.machine.view_is) (c.if-not-has_room_above.ensures.room refl) in
     let path : c.reserve.new.self.items ≡ s.path = search rules in
     let items : c.reserve-else-is_err.new.self.items ≡ c.machine.inside.below.items = search rules in
     let below : reverse c.reserve-else-is_err.new.self.items ≡ s.below = ap (λ (xs : List PlainActivation). reverse xs) items in
@@ -70,16 +63,16 @@ returns-in-Stays g c =
     let phase : s.phase ≡ Running = ap (λ (z : PlainStrand). z.phase) c.machine.view_is ∙ c.requires.running in
     let leads = λ (t z : PlainStrand). IsAhead S z t in
     let begins : topped Running s.top s.layer s ≡ s = ap (λ (f : Phase). in_phase f s) (sym phase) in
-    let home : ComeBack s = record {
-      entry = λ n. subst (λ (z : PlainStrand). entry_by z.start (z.path ++ n ∷ []) ≡ false) (sym c.machine.view_is) (c.if-ends_otherwise.ensures.entry refl n);
-      own = λ n. subst (λ (z : PlainStrand). is_own z.tally.opened (length (z.path ++ n ∷ [])) ≡ false) (sym c.machine.view_is) (c.if-ends_otherwise.ensures.own refl n);
-    } in
-    let a = c.turns.new.top in
-    let path : c.put_on_top.new.path.items ≡ s.path ++ a.children ∷ [] = search rules in
-    let top : c.put_on_top.new.top ≡ c.turns.new.child = search rules in
-    let items : c.put_on_top.new.below.items ≡ c.machine.inside.below.items ++ a ∷ [] = search rules in
-    let below : reverse c.put_on_top.new.below.items ≡ a ∷ s.below = ap (λ (xs : List PlainActivation). reverse xs) items ∙ reverse-append c.machine.inside.below.items (a ∷ []) in
-    let ends = same_parts s c.turns.new.layer _ _ _ _ _ _ _ _ path top below phase in
+    let home : HasRoomAbove s = subst HasRoomAbove (sym c.machine.view_is) (c.if-not-has_room_above.ensures.room refl) in
+    let more = c.in-Stays.more in
+    let xs : List PlainActivation = c.turns.new.nest.child ∷ c.turns.new.nest.above.items in
+    let path : s.path ≡ c.reserve.new.self.items = search rules in
+    let items : c.machine.inside.below.items ≡ c.reserve-else-is_err.new.self.items = search rules in
+    let below : s.below ≡ reverse c.reserve-else-is_err.new.self.items = ap (λ (xs : List PlainActivation). reverse xs) items in
+    let stacks : stacked (suc more) c.turns.new.top xs c.turns.new.layer s ≡ topped Running c.put_on_top.new.top c.turns.new.layer (under c.put_on_top.new.path.items (reverse c.put_on_top.new.below.items) s) =
+    c.put_on_top.ensures.stacked c.turns.new.layer s path below in
+    let ends : topped s.phase c.put_on_top.new.top c.turns.new.layer (under c.put_on_top.new.path.items (reverse c.put_on_top.new.below.items) s) ≡ stacked (suc more) c.turns.new.top xs c.turns.new.layer s =
+    ap (λ (f : Phase). topped f c.put_on_top.new.top c.turns.new.layer (under c.put_on_top.new.path.items (reverse c.put_on_top.new.below.items) s)) phase ∙ sym stacks in
     record {
       ahead = subst (leads _) (begins ∙ c.machine.view_is)
           (subst (λ (z : PlainStrand). IsAhead S (topped Running s.top s.layer s) z) (sym ends) (c.in-Stays.ensures.came s home));

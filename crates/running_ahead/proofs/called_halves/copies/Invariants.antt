@@ -5,5 +5,5 @@ abbrev pub invariant-loop : goal.invariant-loop
 invariant-loop l = record {
   many : length l.copies.items ≡ l.counter;
   copies : All (λ v. v.items ≡ l.top.slots) l.copies.items;
-  child : l.spares.child ≡ l.fn.spares.child;
+  nest : l.spares.nest ≡ l.fn.spares.nest;
 }

@@ -1,4 +1,4 @@
-use Rattle.std.proofs.Common.{rules, ◌≡◌, ◌∙◌, ◌+◌, ◌<◌, ◌≤◌, ◌^◌, false, All, List, ℕ, length, reverse, sym, ap, subst, vec_len, vec_capacity, arith}
+use Rattle.std.proofs.Common.{rules, ◌≡◌, ◌∙◌, ◌∷◌, ◌+◌, ◌<◌, ◌≤◌, ◌^◌, false, All, List, ℕ, length, reverse, sym, ap, subst, vec_len, vec_capacity, arith}
 use Rattle.positions.specs.Activations.{PlainActivation}
 use Rattle.positions.specs.Code.{PlainLoop, loop_at}
 use Rattle.positions.specs.Strands.{PlainStrand}
@@ -20,8 +20,8 @@ returns-then-goes_on-clause-ahead g c =
     let grain : c.loop_code-code.result.grain ≡ (loop_at S.codes a.procedure site).grain = ap (λ (j : PlainLoop). j.grain) c.loop_code-code.ensures.found ∙ ap (λ (f : ℕ). (loop_at S.codes f site).grain) procedure in
     let top : c.args.machine.now.top ≡ a = ap (λ (z : PlainStrand). z.top) (sym c.machine.view_is) ∙ sym same in
     let halved : is_by_turns S.codes a site c.args.halvings h.count ≡ false = subst (λ (x : PlainActivation). is_by_turns S.codes x site c.args.halvings h.count ≡ false) top c.requires.halved in
-    let chained : ChainsTo S site a h.first h.count c.chain-came.result s.layer c.chain-came.new.child c.chain-came.new.layer =
-    subst (λ (x : PlainActivation). ChainsTo S site x h.first h.count c.chain-came.result s.layer c.chain-came.new.child c.chain-came.new.layer) (sym same) c.chain-came.ensures.came in
+    let chained : ChainsTo S site a h.first h.count c.chain-came.result s.layer (c.chain-came.new.nest.child ∷ c.chain-came.new.nest.above.items) c.chain-came.new.layer =
+    subst (λ (x : PlainActivation). ChainsTo S site x h.first h.count c.chain-came.result s.layer (c.chain-came.new.nest.child ∷ c.chain-came.new.nest.above.items) c.chain-came.new.layer) (sym same) c.chain-came.ensures.came in
     let path : s.path ≡ c.reserve.new.self.items = search rules in
     let items : c.machine.inside.below.items ≡ c.reserve-else-is_err.new.self.items = search rules in
     let below : s.below ≡ reverse c.reserve-else-is_err.new.self.items = ap (λ (xs : List PlainActivation). reverse xs) items in
@@ -40,8 +40,8 @@ returns-clause-ahead g c =
     let grain : c.loop_code-code.result.grain ≡ (loop_at S.codes a.procedure site).grain = ap (λ (j : PlainLoop). j.grain) c.loop_code-code.ensures.found ∙ ap (λ (f : ℕ). (loop_at S.codes f site).grain) procedure in
     let top : c.args.machine.now.top ≡ a = ap (λ (z : PlainStrand). z.top) (sym c.machine.view_is) ∙ sym same in
     let halved : is_by_turns S.codes a site c.args.halvings h.count ≡ false = subst (λ (x : PlainActivation). is_by_turns S.codes x site c.args.halvings h.count ≡ false) top c.requires.halved in
-    let chained : ChainsTo S site a h.first h.count c.chain-came.result s.layer c.chain-came.new.child c.chain-came.new.layer =
-    subst (λ (x : PlainActivation). ChainsTo S site x h.first h.count c.chain-came.result s.layer c.chain-came.new.child c.chain-came.new.layer) (sym same) c.chain-came.ensures.came in
+    let chained : ChainsTo S site a h.first h.count c.chain-came.result s.layer (c.chain-came.new.nest.child ∷ c.chain-came.new.nest.above.items) c.chain-came.new.layer =
+    subst (λ (x : PlainActivation). ChainsTo S site x h.first h.count c.chain-came.result s.layer (c.chain-came.new.nest.child ∷ c.chain-came.new.nest.above.items) c.chain-came.new.layer) (sym same) c.chain-came.ensures.came in
     let path : s.path ≡ c.reserve.new.self.items = search rules in
     let items : c.machine.inside.below.items ≡ c.reserve-else-is_err.new.self.items = search rules in
     let below : s.below ≡ reverse c.reserve-else-is_err.new.self.items = ap (λ (xs : List PlainActivation). reverse xs) items in
@@ -60,11 +60,13 @@ goes_on-requires-clause-children g c =
 pub goes_on-requires-clause-path_room : goal.goes_on-requires-clause-path_room
 goes_on-requires-clause-path_room g c =
     let many : length c.in-Some-copies.copies.items ≡ c.in-Some.levels = c.in-Some-copies.ensures.many in
-    let room : vec_len c.reserve.new.self + (c.in-Some.levels + 1) ≤ vec_capacity c.reserve.new.self = search rules in
-    omega (arith, many, room)
+    let above : length c.chain-came.new.nest.above.items ≡ c.len.result = search rules in
+    let room : vec_len c.reserve.new.self + (c.in-Some.levels + 1 + c.len.result) ≤ vec_capacity c.reserve.new.self = search rules in
+    omega (arith, many, above, room)
 
 pub goes_on-requires-clause-below_room : goal.goes_on-requires-clause-below_room
 goes_on-requires-clause-below_room g c =
     let many : length c.in-Some-copies.copies.items ≡ c.in-Some.levels = c.in-Some-copies.ensures.many in
-    let room : vec_len c.reserve-else-is_err.new.self + (c.in-Some.levels + 1) ≤ vec_capacity c.reserve-else-is_err.new.self = search rules in
-    omega (arith, many, room)
+    let above : length c.chain-came.new.nest.above.items ≡ c.len.result = search rules in
+    let room : vec_len c.reserve-else-is_err.new.self + (c.in-Some.levels + 1 + c.len.result) ≤ vec_capacity c.reserve-else-is_err.new.self = search rules in
+    omega (arith, many, above, room)

@@ -13,7 +13,8 @@ use Rattle.positions.specs.Advance.{evaluated}
 use Rattle.activations.specs.Given.{lent}
 use Rattle.small_steps.specs.Steps.{nested_plain}
 use Rattle.running_ahead.specs.Ahead.{GoesAhead}
-use Rattle.own_statements.specs.Recursion.{HasRoomAbove, IsCalled}
+use Rattle.own_statements.specs.Paths.{HasRoomAbove}
+use Rattle.own_statements.specs.Recursion.{IsCalled}
 use Rattle.running_ahead.proofs.Paths.{same_parts}
 use Rattle.running_ahead.proofs.OwnAhead.{found_goes}
 use Rattle.running_ahead.proofs.children.find_at_once.Goals as goal
@@ -28,7 +29,7 @@ returns-in-Some-called-clause-came g c held n e =
     let es = map expression callee.arguments.now in
     let v = c.in-Some-called.value in
     let phase : s.phase ≡ Running = ap (λ (z : PlainStrand). z.phase) c.machine.view_is ∙ c.requires.running in
-    let room : HasRoomAbove s.top.left s = subst (λ (z : PlainStrand). HasRoomAbove z.top.left z) (sym c.machine.view_is) (c.if-not-has_room_above.ensures.room refl) in
+    let room : HasRoomAbove s = subst HasRoomAbove (sym c.machine.view_is) (c.if-not-has_room_above.ensures.room refl) in
     let size : length s.top.slots ≡ slots_of S.codes f = search rules in
     let layer : c.enter.new.self ≡ entering f (depth_limit - c.called.new.least) s.layer = search rules in
     let top : c.receive.new.self ≡ bound callee.into (Has v) (waiting false callee.into w s.top) = search rules in

@@ -7,7 +7,7 @@ use Rattle.running_ahead.specs.Chains.{Reaches, reach}
 use Rattle.running_ahead.specs.Leaves.{gathering}
 use Rattle.running_ahead.specs.RecordedHalves.{Arrives}
 use Rattle.running_ahead.specs.declared.descent.Part.{Part}
-use Rattle.running_ahead.proofs.Stacked.{clear_less, reach_more, reached_here, first_level, second_level}
+use Rattle.running_ahead.proofs.Stacked.{reach_more, reached_here, first_level, second_level}
 use Rattle.running_ahead.proofs.PartsRecorded.{arrived_here, first_recorded, second_recorded}
 use Rattle.running_ahead.proofs.descent.level.Goals as goal
 
@@ -21,7 +21,7 @@ pub returns-then-whole-clause-reaches : goal.returns-then-whole-clause-reaches
 returns-then-whole-clause-reaches c =
     let p = c.args.begun.part in
     λ setting s u v r grain fits clear path below turns.
-    reached_here setting p.site r p.halvings p.share c.args.top.now s u v c.args.begun.done c.args.path.now.items (reverse c.args.below.now.items) (clear_less (suc r) (suc (suc r)) s (omega arith) clear) path below turns
+    reached_here setting p.site r p.halvings p.share c.args.top.now s u v c.args.begun.done c.args.path.now.items (reverse c.args.below.now.items) clear path below turns
 
 pub returns-then-begun-first-clause-reaches : goal.returns-then-begun-first-clause-reaches
 returns-then-begun-first-clause-reaches c =
@@ -54,7 +54,7 @@ pub returns-then-whole-clause-arrives : goal.returns-then-whole-clause-arrives
 returns-then-whole-clause-arrives c =
     let p = c.args.begun.part in
     λ setting s x y r grain fits clear path below those.
-    arrived_here setting p.site r p.halvings p.share c.args.top.now s x y c.args.begun.done c.args.path.now.items (reverse c.args.below.now.items) (clear_less (suc r) (suc (suc r)) (gathering x s) (omega arith) clear) path below those
+    arrived_here setting p.site r p.halvings p.share c.args.top.now s x y c.args.begun.done c.args.path.now.items (reverse c.args.below.now.items) clear path below those
 
 pub returns-then-begun-first-clause-arrives : goal.returns-then-begun-first-clause-arrives
 returns-then-begun-first-clause-arrives c =

@@ -1,4 +1,4 @@
-use Rattle.std.proofs.Common.{rules, ◌≡◌, ◌-◌, ◌+◌, ◌<◌, ◌+ℤ◌, ℕ, ℤ, pos, true, List, Some, None, map, slice_set, refl, sym, ap, ◌∙◌, subst, to_z, of_z, w64, add-one}
+use Rattle.std.proofs.Common.{rules, ◌≡◌, ◌-◌, ◌+◌, ◌<◌, ◌≤◌, length, ◌+ℤ◌, ℕ, ℤ, pos, true, List, Some, None, map, slice_set, refl, sym, ap, ◌∙◌, subst, to_z, of_z, w64, add-one}
 use Rattle.meaning.specs.Elision.{depth_limit}
 use Rattle.linked_program.specs.CodeView.{expression, slots_of}
 use Rattle.evaluation.specs.declared.slot.Slot.{Slot}
@@ -11,13 +11,13 @@ use Rattle.positions.specs.Layers.{PlainLayer, entering}
 use Rattle.activations.specs.Given.{lent, loop_of}
 use Rattle.activations.specs.Turned.{behind}
 use Rattle.own_statements.specs.Fills.{Fills, IsCounted}
-use Rattle.own_statements.specs.Paths.{ComesTo}
+use Rattle.own_statements.specs.Paths.{ComesTo, StopsBy}
 use Rattle.running_ahead.specs.Chains.{AreTurns, none, more}
 use Rattle.running_ahead.proofs.Iterations.{is_turn, is_stay}
 use Rattle.running_ahead.proofs.turns.chain_by.Goals as goal
 
 pub loop-done-init : goal.loop-done-init
-loop-done-init g c = record { turns = none; top = refl; kinds = refl }
+loop-done-init g c = record { turns = none; top = refl; kinds = refl; long = refl }
 
 pub fills_turn-requires-clause-counted : goal.fills_turn-requires-clause-counted
 fills_turn-requires-clause-counted g c κs within =
@@ -36,7 +36,7 @@ loop-done-preserved g c =
     let m = c.fills_turn.new.layer in
     let n = c.call.new.layer in
     let child = c.fills_turn.new.child in
-    let count : c.left-left.result ≡ first.left = c.left-left.ensures.left in
+    let count : c.left.result ≡ first.left = c.left.ensures.left in
     let v = to_z w64 (of_z w64 c.number_of-number.result) in
     let share : c.behind.result ≡ behind d c.args.turns.share = c.behind.ensures.rest in
     let number : v ≡ site.low +ℤ pos i = search rules in
@@ -47,17 +47,18 @@ loop-done-preserved g c =
     subst (λ (xs : List Slot). Fills (entry_at S.tables (slice_set xs j.variable (Has (site.low +ℤ pos i))) (slots_of S.codes j.callee) (map expression j.arguments)) child.slots l m) slots
     (subst (λ (k : ℕ). Fills (entry_at S.tables (slice_set c.loop-done.top.slots j.variable (Has (site.low +ℤ pos i))) k (map expression j.arguments)) child.slots l m) size
     (subst (λ (u : ℤ). Fills (entry_at S.tables (slice_set c.loop-done.top.slots j.variable (Has u)) c.slots-size.result (map expression j.arguments)) child.slots l m) number (c.fills_turn.ensures.filled is_filled))) in
-    let came : ComesTo S true (made j.callee child.slots (Block (first_of 0)) (first.left - 1)) (entering j.callee (depth_limit - (first.left - 1)) m) (Some c.in-Some.field-0) c.call.new.child n =
-    subst (λ (k : ℕ). ComesTo S true (made j.callee child.slots (Block (first_of 0)) (k - 1)) (entering j.callee (depth_limit - (k - 1)) m) (Some c.in-Some.field-0) c.call.new.child n) count c.in-Some.ensures.ahead in
-    let turn = is_turn S site j first.procedure first.slots first.left i l c.requires.found c.requires.plain c.requires.deep child.slots m n c.call.new.child filled c.call.ensures.kinds c.in-Some.field-0 came in
+    let came : ComesTo S true (made j.callee child.slots (Block (first_of 0)) (first.left - 1)) (entering j.callee (depth_limit - (first.left - 1)) m) (Some c.in-Gave.field-0) c.call.new.child n =
+    subst (λ (k : ℕ). ComesTo S true (made j.callee child.slots (Block (first_of 0)) (k - 1)) (entering j.callee (depth_limit - (k - 1)) m) (Some c.in-Gave.field-0) c.call.new.child n) count c.in-Gave.ensures.ahead in
+    let turn = is_turn S site j first.procedure first.slots first.left i l c.requires.found c.requires.plain c.requires.deep child.slots m n c.call.new.child filled c.call.ensures.kinds c.in-Gave.field-0 came in
     record {
       turns = subst (λ (k : ℕ). AreTurns S site first.procedure first.slots first.left c.args.turns.share.first c.args.layer.now k n) (sym (add-one d)) (more d l n c.loop-done.invariant.turns turn);
       top = c.fills_turn.ensures.top ∙ c.loop-done.invariant.top;
+      long = c.call.ensures.long ∙ c.loop-done.invariant.long;
       kinds = c.call.ensures.kinds ∙ ap (λ (k : PlainLayer). k.kinds) filled.1 ∙ c.loop-done.invariant.kinds;
     }
 
-pub returns-in-None : goal.returns-in-None
-returns-in-None g c =
+pub returns-in-Stopped : goal.returns-in-Stopped
+returns-in-Stopped g c =
     let S = lent c.args.setting in
     let site = c.args.turns.site in
     let d = c.loop-done.done in
@@ -69,7 +70,7 @@ returns-in-None g c =
     let n = c.call.new.layer in
     let child = c.fills_turn.new.child in
     let less : d < c.args.turns.share.count = search rules in
-    let count : c.left-left.result ≡ first.left = c.left-left.ensures.left in
+    let count : c.left.result ≡ first.left = c.left.ensures.left in
     let v = to_z w64 (of_z w64 c.number_of-number.result) in
     let share : c.behind.result ≡ behind d c.args.turns.share = c.behind.ensures.rest in
     let number : v ≡ site.low +ℤ pos i = search rules in
@@ -80,11 +81,15 @@ returns-in-None g c =
     subst (λ (xs : List Slot). Fills (entry_at S.tables (slice_set xs j.variable (Has (site.low +ℤ pos i))) (slots_of S.codes j.callee) (map expression j.arguments)) child.slots l m) slots
     (subst (λ (k : ℕ). Fills (entry_at S.tables (slice_set c.loop-done.top.slots j.variable (Has (site.low +ℤ pos i))) k (map expression j.arguments)) child.slots l m) size
     (subst (λ (u : ℤ). Fills (entry_at S.tables (slice_set c.loop-done.top.slots j.variable (Has u)) c.slots-size.result (map expression j.arguments)) child.slots l m) number (c.fills_turn.ensures.filled is_filled))) in
-    let came : ComesTo S true (made j.callee child.slots (Block (first_of 0)) (first.left - 1)) (entering j.callee (depth_limit - (first.left - 1)) m) None c.call.new.child n =
-    subst (λ (k : ℕ). ComesTo S true (made j.callee child.slots (Block (first_of 0)) (k - 1)) (entering j.callee (depth_limit - (k - 1)) m) None c.call.new.child n) count c.in-None.ensures.ahead in
-    let stay = is_stay S site j first.procedure first.slots first.left i l c.requires.found c.requires.plain c.requires.deep child.slots m n c.call.new.child filled c.call.ensures.kinds came in
+    let over = c.in-Stopped.more in
+    let ys : List PlainActivation = c.call.new.above in
+    let stop : StopsBy S true (made j.callee child.slots (Block (first_of 0)) (first.left - 1)) (entering j.callee (depth_limit - (first.left - 1)) m) over c.call.new.child ys n =
+    subst (λ (k : ℕ). StopsBy S true (made j.callee child.slots (Block (first_of 0)) (k - 1)) (entering j.callee (depth_limit - (k - 1)) m) over c.call.new.child ys n) count c.in-Stopped.ensures.ahead in
+    let long : length ys ≡ length c.args.nest.above.items = c.call.ensures.long ∙ c.loop-done.invariant.long in
+    let stay = is_stay S site j first.procedure first.slots first.left i l c.requires.found c.requires.plain c.requires.deep child.slots m n c.call.new.child filled c.call.ensures.kinds over ys stop in
     record {
       came = record { before = l; turns = c.loop-done.invariant.turns; stay = stay };
-      fewer = less;
+      fewer = (less, subst (λ (k : ℕ). over ≤ k) long stop.0);
+      long = long;
       top = c.fills_turn.ensures.top ∙ c.loop-done.invariant.top;
     }

@@ -1,0 +1,391 @@
+use Rattle.activations.specs.Given.{lent}
+use Rattle.evaluation.specs.Values.{entry_at, value_at, values_at}
+use Rattle.linked_program.specs.CodeView.{expression, instruction_at, memo_of, slots_of}
+use Rattle.linked_program.specs.declared.code.Instruction.{Instruction}
+use Rattle.own_statements.proofs.Calls.{call_returns, call_stays}
+use Rattle.own_statements.proofs.Choices.{chooses_if}
+use Rattle.own_statements.specs.Fills.{Fills}
+use Rattle.own_statements.specs.declared.ran.Inside.TheVariants.{Back}
+use Rattle.meaning.specs.Elision.{depth_limit}
+use Rattle.meaning.specs.declared.tree.Way.TheVariants.{Call}
+use Rattle.linked_program.specs.declared.code.Expression.{Expression}
+use Rattle.evaluation.specs.declared.slot.Slot.{Slot}
+use Rattle.evaluation.specs.declared.slot.Slot.TheVariants.{Has}
+use Rattle.positions.specs.Layers.{PlainLayer, entering}
+use Rattle.own_statements.proofs.Paths.{come_gave, come_inside, come_join, come_moved, come_next, come_none, come_out, come_passed, found_as, run_join, stop_here, stop_join}
+use Rattle.own_statements.proofs.Updates.{does_update}
+use Rattle.own_statements.specs.Paths.{Chooses, ComesTo, Does, IsInBlock, OnNext, StopsBy, here}
+use Rattle.own_statements.specs.Runs.{CallsTo, IsBlock}
+use Rattle.own_statements.specs.declared.statements.Chosen.{Chosen}
+use Rattle.own_statements.specs.declared.statements.Did.TheVariants.{Next, Nothing}
+use Rattle.positions.specs.Activations.{PlainActivation, at, bound, first_of, made, next_of, waiting}
+use Rattle.positions.specs.Advance.{choosing, combining, evaluated, performed}
+use Rattle.positions.specs.Code.{instruction_inside}
+use Rattle.positions.specs.declared.work.Position.{Position}
+use Rattle.positions.specs.declared.work.Work.TheVariants.{Block}
+use Rattle.std.proofs.Common.{Bool, List, None, Some, ap, false, if◌then◌else◌, length, map, of_z, refl, rules, slice_get, subst, sym, to_z, true, w64, add-one, ℕ, ℤ, ◌+◌, ◌-◌, ◌==◌, ◌∷◌, ◌<◌, ◌∙◌, ◌≡◌, ◌≤◌}
+use Rattle.std.proofs.lemmas.Option.{slice_get_past, slice_get_read}
+use Rattle.own_statements.specs.declared.statements.Chosen.TheVariants as chosen
+use Rattle.own_statements.proofs.runs.+calling.Goals as goal
+
+pub run_block-loop-index-init : goal.run_block-loop-index-init
+run_block-loop-index-init g t c = record { kinds = refl; long = refl; same = (refl, refl); come = λ s may. here }
+
+pub run_block-loop-index-preserved : goal.run_block-loop-index-preserved
+run_block-loop-index-preserved g t c =
+    let S = lent c.args.setting in
+    let a = at (Block c.args.rest.position) c.args.top.now in
+    let xs = c.args.rest.statements.now in
+    let index = c.loop-index.index in
+    let i = c.index-statements-index.result in
+    let p : Position = record { block = c.args.rest.position.block; index = index } in
+    let b = c.loop-index.top in
+    let there : index < length xs = search rules in
+    let found : Some i ≡ instruction_inside S.codes b.procedure (length b.outer) p =
+    sym (slice_get_read xs (length xs) index i refl there c.index-statements-index.is) ∙ c.requires.block index
+    ∙ found_as S.codes c.args.top.now b p c.loop-index.invariant.same.0 c.loop-index.invariant.same.1 in
+    record {
+      long = c.loop-index.invariant.long;
+      kinds = c.in-Next.ensures.kinds ∙ c.loop-index.invariant.kinds;
+      same = (c.in-Next.ensures.same_block.0 ∙ c.loop-index.invariant.same.0, c.in-Next.ensures.same_block.1 ∙ c.loop-index.invariant.same.1);
+      come = come_next S c.args.passes_syncs a c.args.layer.now p b c.loop-index.layer c.loop-index.invariant.come i found c.perform_alone.new.top c.perform_alone.new.layer c.in-Next.ensures.done;
+    }
+
+pub run_block-loop-index-preserved-in-Update : goal.run_block-loop-index-preserved-in-Update
+run_block-loop-index-preserved-in-Update g t c =
+    let S = lent c.args.setting in
+    let a = at (Block c.args.rest.position) c.args.top.now in
+    let xs = c.args.rest.statements.now in
+    let index = c.loop-index.index in
+    let i = c.index-statements-index.result in
+    let p : Position = record { block = c.args.rest.position.block; index = index } in
+    let b = c.loop-index.top in
+    let there : index < length xs = search rules in
+    let found : Some i ≡ instruction_inside S.codes b.procedure (length b.outer) p =
+    sym (slice_get_read xs (length xs) index i refl there c.index-statements-index.is) ∙ c.requires.block index
+    ∙ found_as S.codes c.args.top.now b p c.loop-index.invariant.same.0 c.loop-index.invariant.same.1 in
+    let t = c.combine_some.result in
+    let did : t ≡ true = search rules in
+    let es : c.as_slice-values.result.now ≡ c.in-Update.values.items = search rules in
+    let r = c.in-Update.reducer in
+    let m = c.combine_some.new.top in
+    let n = c.combine_some.new.layer in
+    let done : Does c.args.passes_syncs p (λ kit. evaluated i.number (values_at S.tables b.slots (map expression c.as_slice-values.result.now)) (combining (slice_get S.kinds r) i.number p r)) b c.loop-index.layer Next m n =
+    subst (λ (u : Bool). Does c.args.passes_syncs p (λ kit. evaluated i.number (values_at S.tables b.slots (map expression c.as_slice-values.result.now)) (combining (slice_get S.kinds r) i.number p r)) b c.loop-index.layer (if u then Next else Nothing) m n) did c.combine_some.ensures.done in
+    let same : IsInBlock b m = subst (λ (u : Bool). OnNext (if u then Next else Nothing) (IsInBlock b m)) did c.combine_some.ensures.same_block in
+    record {
+      long = c.loop-index.invariant.long;
+      kinds = c.combine_some.ensures.kinds ∙ c.loop-index.invariant.kinds;
+      same = (same.0 ∙ c.loop-index.invariant.same.0, same.1 ∙ c.loop-index.invariant.same.1);
+      come = come_next S c.args.passes_syncs a c.args.layer.now p b c.loop-index.layer c.loop-index.invariant.come i found m n
+          (does_update S c.args.passes_syncs p i.number r c.in-Update.values c.as_slice-values.result.now i.operation b c.loop-index.layer Next m n c.in-Update.is es done);
+    }
+
+pub run_block-returns-then-not-combine_some-clause-ran : goal.run_block-returns-then-not-combine_some-clause-ran
+run_block-returns-then-not-combine_some-clause-ran g t c =
+    let S = lent c.args.setting in
+    let a = at (Block c.args.rest.position) c.args.top.now in
+    let xs = c.args.rest.statements.now in
+    let index = c.loop-index.index in
+    let i = c.index-statements-index.result in
+    let p : Position = record { block = c.args.rest.position.block; index = index } in
+    let b = c.loop-index.top in
+    let there : index < length xs = search rules in
+    let found : Some i ≡ instruction_inside S.codes b.procedure (length b.outer) p =
+    sym (slice_get_read xs (length xs) index i refl there c.index-statements-index.is) ∙ c.requires.block index
+    ∙ found_as S.codes c.args.top.now b p c.loop-index.invariant.same.0 c.loop-index.invariant.same.1 in
+    let t = c.combine_some.result in
+    let did : t ≡ false = search rules in
+    let es : c.as_slice-values.result.now ≡ c.in-Update.values.items = search rules in
+    let r = c.in-Update.reducer in
+    let m = c.combine_some.new.top in
+    let n = c.combine_some.new.layer in
+    let done : Does c.args.passes_syncs p (λ kit. evaluated i.number (values_at S.tables b.slots (map expression c.as_slice-values.result.now)) (combining (slice_get S.kinds r) i.number p r)) b c.loop-index.layer Nothing m n =
+    subst (λ (u : Bool). Does c.args.passes_syncs p (λ kit. evaluated i.number (values_at S.tables b.slots (map expression c.as_slice-values.result.now)) (combining (slice_get S.kinds r) i.number p r)) b c.loop-index.layer (if u then Next else Nothing) m n) did c.combine_some.ensures.done in
+    subst (λ (y : PlainActivation). StopsBy S c.args.passes_syncs a c.args.layer.now 0 y c.loop-index.above n) (sym c.stand.ensures.stands)
+    (stop_here S c.args.passes_syncs a c.args.layer.now (at (Block p) m) c.loop-index.above n (come_none S c.args.passes_syncs a c.args.layer.now p b c.loop-index.layer c.loop-index.invariant.come i found m n
+    (does_update S c.args.passes_syncs p i.number r c.in-Update.values c.as_slice-values.result.now i.operation b c.loop-index.layer Nothing m n c.in-Update.is es done)))
+
+pub run_block-returns-in-Moved-clause-ran : goal.run_block-returns-in-Moved-clause-ran
+run_block-returns-in-Moved-clause-ran g t c =
+    let S = lent c.args.setting in
+    let a = at (Block c.args.rest.position) c.args.top.now in
+    let xs = c.args.rest.statements.now in
+    let index = c.loop-index.index in
+    let i = c.index-statements-index.result in
+    let p : Position = record { block = c.args.rest.position.block; index = index } in
+    let b = c.loop-index.top in
+    let there : index < length xs = search rules in
+    let found : Some i ≡ instruction_inside S.codes b.procedure (length b.outer) p =
+    sym (slice_get_read xs (length xs) index i refl there c.index-statements-index.is) ∙ c.requires.block index
+    ∙ found_as S.codes c.args.top.now b p c.loop-index.invariant.same.0 c.loop-index.invariant.same.1 in
+    run_join S c.args.passes_syncs a c.args.layer.now c.perform_alone.new.top c.perform_alone.new.layer c.ran_to-in-Moved.result c.perform_alone.new.top c.loop-index.above c.perform_alone.new.layer
+    (come_moved S c.args.passes_syncs a c.args.layer.now p b c.loop-index.layer c.loop-index.invariant.come i found c.perform_alone.new.top c.perform_alone.new.layer c.in-Moved.ensures.done)
+    (c.ran_to-in-Moved.ensures.runs c.args.passes_syncs c.perform_alone.new.layer c.loop-index.above)
+
+pub run_block-returns-in-Gave-clause-ran : goal.run_block-returns-in-Gave-clause-ran
+run_block-returns-in-Gave-clause-ran g t c =
+    let S = lent c.args.setting in
+    let a = at (Block c.args.rest.position) c.args.top.now in
+    let xs = c.args.rest.statements.now in
+    let index = c.loop-index.index in
+    let i = c.index-statements-index.result in
+    let p : Position = record { block = c.args.rest.position.block; index = index } in
+    let b = c.loop-index.top in
+    let there : index < length xs = search rules in
+    let found : Some i ≡ instruction_inside S.codes b.procedure (length b.outer) p =
+    sym (slice_get_read xs (length xs) index i refl there c.index-statements-index.is) ∙ c.requires.block index
+    ∙ found_as S.codes c.args.top.now b p c.loop-index.invariant.same.0 c.loop-index.invariant.same.1 in
+    let same : c.in-Gave.value ≡ to_z w64 (of_z w64 c.in-Gave.value) = search rules in
+    subst (λ (v : ℤ). ComesTo S c.args.passes_syncs a c.args.layer.now (Some v) c.stand-in-Gave.new.self c.perform_alone.new.layer) same
+    (subst (λ (y : PlainActivation). ComesTo S c.args.passes_syncs a c.args.layer.now (Some c.in-Gave.value) y c.perform_alone.new.layer) (sym c.stand-in-Gave.ensures.stands)
+    (come_gave S c.args.passes_syncs a c.args.layer.now p b c.loop-index.layer c.loop-index.invariant.come i found c.perform_alone.new.top c.perform_alone.new.layer c.in-Gave.value c.in-Gave.ensures.done))
+
+pub run_block-returns-clause-ran : goal.run_block-returns-clause-ran
+run_block-returns-clause-ran g t c =
+    let S = lent c.args.setting in
+    let a = at (Block c.args.rest.position) c.args.top.now in
+    let xs = c.args.rest.statements.now in
+    let index = c.loop-index.index in
+    let p : Position = record { block = c.args.rest.position.block; index = index } in
+    let b = c.loop-index.top in
+    let past : length xs ≤ index = search rules in
+    let found : None ≡ instruction_inside S.codes b.procedure (length b.outer) p =
+    sym (slice_get_past xs index past) ∙ c.requires.block index ∙ found_as S.codes c.args.top.now b p c.loop-index.invariant.same.0 c.loop-index.invariant.same.1 in
+    run_join S c.args.passes_syncs a c.args.layer.now c.go_behind.new.top c.loop-index.layer c.ran_to-2.result c.go_behind.new.top c.loop-index.above c.loop-index.layer
+    (come_out S c.args.passes_syncs a c.args.layer.now p b c.loop-index.layer c.loop-index.invariant.come c.go_behind.new.top found c.go_behind.ensures.outside)
+    (c.ran_to-2.ensures.runs c.args.passes_syncs c.loop-index.layer c.loop-index.above)
+
+pub run_block-loop-index-preserved-in-Passed : goal.run_block-loop-index-preserved-in-Passed
+run_block-loop-index-preserved-in-Passed g t c =
+    let S = lent c.args.setting in
+    let a = at (Block c.args.rest.position) c.args.top.now in
+    let xs = c.args.rest.statements.now in
+    let index = c.loop-index.index in
+    let i = c.index-statements-index.result in
+    let p : Position = record { block = c.args.rest.position.block; index = index } in
+    let b = c.loop-index.top in
+    let there : index < length xs = search rules in
+    let found : Some i ≡ instruction_inside S.codes b.procedure (length b.outer) p =
+    sym (slice_get_read xs (length xs) index i refl there c.index-statements-index.is) ∙ c.requires.block index
+    ∙ found_as S.codes c.args.top.now b p c.loop-index.invariant.same.0 c.loop-index.invariant.same.1 in
+    let m = c.choose.new.top in
+    let n = c.choose.new.layer in
+    let block = c.in-If.second in
+    let done : (ch : Chosen) → Chooses c.args.passes_syncs p block (λ kit. evaluated i.number (value_at S.tables b.slots (expression c.in-If.condition)) (choosing p c.in-If.first block)) b c.loop-index.layer ch m n
+    → Chooses c.args.passes_syncs p block (λ kit. performed S kit p i.number i.operation) b c.loop-index.layer ch m n =
+    λ ch h. chooses_if S c.args.passes_syncs p i.number c.in-If.condition c.in-If.first block i.operation b c.loop-index.layer ch m n c.in-If.is h in
+    let none : instruction_at S.codes m.procedure block 0 ≡ None =
+    ap (λ f. instruction_at S.codes f block 0) c.in-Passed.ensures.same_block.0 ∙ c.in-Passed.ensures.empty in
+    record {
+      long = c.loop-index.invariant.long;
+      kinds = c.choose.ensures.kinds ∙ c.loop-index.invariant.kinds;
+      same = (c.in-Passed.ensures.same_block.0 ∙ c.loop-index.invariant.same.0, c.in-Passed.ensures.same_block.1 ∙ c.loop-index.invariant.same.1);
+      come = come_passed S c.args.passes_syncs a c.args.layer.now p b c.loop-index.layer c.loop-index.invariant.come i found m n block none (done chosen.Passed c.in-Passed.ensures.done);
+    }
+
+pub run_block-returns-in-Inside-clause-ran : goal.run_block-returns-in-Inside-clause-ran
+run_block-returns-in-Inside-clause-ran g t c =
+    let S = lent c.args.setting in
+    let a = at (Block c.args.rest.position) c.args.top.now in
+    let xs = c.args.rest.statements.now in
+    let index = c.loop-index.index in
+    let i = c.index-statements-index.result in
+    let p : Position = record { block = c.args.rest.position.block; index = index } in
+    let b = c.loop-index.top in
+    let there : index < length xs = search rules in
+    let found : Some i ≡ instruction_inside S.codes b.procedure (length b.outer) p =
+    sym (slice_get_read xs (length xs) index i refl there c.index-statements-index.is) ∙ c.requires.block index
+    ∙ found_as S.codes c.args.top.now b p c.loop-index.invariant.same.0 c.loop-index.invariant.same.1 in
+    let m = c.choose.new.top in
+    let n = c.choose.new.layer in
+    let block = c.in-If.second in
+    let done : (ch : Chosen) → Chooses c.args.passes_syncs p block (λ kit. evaluated i.number (value_at S.tables b.slots (expression c.in-If.condition)) (choosing p c.in-If.first block)) b c.loop-index.layer ch m n
+    → Chooses c.args.passes_syncs p block (λ kit. performed S kit p i.number i.operation) b c.loop-index.layer ch m n =
+    λ ch h. chooses_if S c.args.passes_syncs p i.number c.in-If.condition c.in-If.first block i.operation b c.loop-index.layer ch m n c.in-If.is h in
+    run_join S c.args.passes_syncs a c.args.layer.now m n c.ran_to.result m c.loop-index.above n
+    (come_inside S c.args.passes_syncs a c.args.layer.now p b c.loop-index.layer c.loop-index.invariant.come i found m n block (done chosen.Inside c.in-Inside.ensures.done))
+    (c.ran_to.ensures.runs c.args.passes_syncs n c.loop-index.above)
+
+pub run_block-returns-in-Nothing-clause-ran : goal.run_block-returns-in-Nothing-clause-ran
+run_block-returns-in-Nothing-clause-ran g t c =
+    let S = lent c.args.setting in
+    let a = at (Block c.args.rest.position) c.args.top.now in
+    let xs = c.args.rest.statements.now in
+    let index = c.loop-index.index in
+    let i = c.index-statements-index.result in
+    let p : Position = record { block = c.args.rest.position.block; index = index } in
+    let b = c.loop-index.top in
+    let there : index < length xs = search rules in
+    let found : Some i ≡ instruction_inside S.codes b.procedure (length b.outer) p =
+    sym (slice_get_read xs (length xs) index i refl there c.index-statements-index.is) ∙ c.requires.block index
+    ∙ found_as S.codes c.args.top.now b p c.loop-index.invariant.same.0 c.loop-index.invariant.same.1 in
+    let m = c.choose.new.top in
+    let n = c.choose.new.layer in
+    let block = c.in-If.second in
+    let done : (ch : Chosen) → Chooses c.args.passes_syncs p block (λ kit. evaluated i.number (value_at S.tables b.slots (expression c.in-If.condition)) (choosing p c.in-If.first block)) b c.loop-index.layer ch m n
+    → Chooses c.args.passes_syncs p block (λ kit. performed S kit p i.number i.operation) b c.loop-index.layer ch m n =
+    λ ch h. chooses_if S c.args.passes_syncs p i.number c.in-If.condition c.in-If.first block i.operation b c.loop-index.layer ch m n c.in-If.is h in
+    subst (λ (y : PlainActivation). StopsBy S c.args.passes_syncs a c.args.layer.now 0 y c.loop-index.above n) (sym c.stand-in-Nothing.ensures.stands)
+    (stop_here S c.args.passes_syncs a c.args.layer.now (at (Block p) m) c.loop-index.above n
+    (come_none S c.args.passes_syncs a c.args.layer.now p b c.loop-index.layer c.loop-index.invariant.come i found m n (done chosen.Nothing c.in-Nothing.ensures.done)))
+
+pub run_block-enters-requires-clause-found : goal.run_block-enters-requires-clause-found
+run_block-enters-requires-clause-found g t c κs within =
+    let S = lent c.args.setting in
+    let xs = c.args.rest.statements.now in
+    let index = c.loop-index.index in
+    let i = c.index-statements-index.result in
+    let p : Position = record { block = c.args.rest.position.block; index = index } in
+    let b = c.loop-index.top in
+    let there : index < length xs = search rules in
+    sym (slice_get_read xs (length xs) index i refl there c.index-statements-index.is) ∙ c.requires.block index
+    ∙ found_as S.codes c.args.top.now b p c.loop-index.invariant.same.0 c.loop-index.invariant.same.1
+
+pub run_block-loop-index-preserved-in-Back : goal.run_block-loop-index-preserved-in-Back
+run_block-loop-index-preserved-in-Back g t c =
+    let S = lent c.args.setting in
+    let a = at (Block c.args.rest.position) c.args.top.now in
+    let p : Position = record { block = c.args.rest.position.block; index = c.loop-index.index } in
+    let called = c.in-Back.ensures.called in
+    record {
+      kinds = c.enters.ensures.kinds ∙ c.loop-index.invariant.kinds;
+      long = c.enters.ensures.long ∙ c.loop-index.invariant.long;
+      same = (called.0.0 ∙ c.loop-index.invariant.same.0, called.0.1 ∙ c.loop-index.invariant.same.1);
+      come = come_join S c.args.passes_syncs a c.args.layer.now (at (Block p) c.loop-index.top) c.loop-index.layer None (at (Block (next_of p)) c.enters.new.top) c.enters.new.layer c.loop-index.invariant.come called.1;
+    }
+
+pub run_block-returns-in-Stays-clause-ran : goal.run_block-returns-in-Stays-clause-ran
+run_block-returns-in-Stays-clause-ran g t c =
+    let p : Position = record { block = c.args.rest.position.block; index = c.loop-index.index } in
+    stop_join (lent c.args.setting) c.args.passes_syncs (at (Block c.args.rest.position) c.args.top.now) c.args.layer.now (at (Block p) c.loop-index.top) c.loop-index.layer c.in-Stays.waiting c.enters.new.top c.enters.new.above c.enters.new.layer
+    c.loop-index.invariant.come c.in-Stays.ensures.called
+
+pub run_from-loop-init : goal.run_from-loop-init
+run_from-loop-init g t c =
+    let S = lent c.args.setting in
+    let a = c.args.top.now in
+    let l = c.args.layer.now in
+    let p : Position = c.args.rest.position in
+    record {
+      kinds = search rules;
+      long = refl;
+      block = subst (λ (xs : List Instruction). IsBlock S.codes a c.first.result.0.block xs) (sym c.first.ensures.statements) (subst (λ (q : Position). IsBlock S.codes a q.block c.args.rest.statements.now) (sym c.first.ensures.position) c.requires.block);
+      come = subst (λ (q : Position). ComesTo S c.args.passes_syncs (at (Block p) a) l None (at (Block q) a) l) (sym c.first.ensures.position) (λ s may. here);
+    }
+
+pub run_from-loop-preserved : goal.run_from-loop-preserved
+run_from-loop-preserved g t c =
+    let S = lent c.args.setting in
+    let a = at (Block c.args.rest.position) c.args.top.now in
+    record {
+      long = c.run_block.ensures.long ∙ c.loop.invariant.long;
+      kinds = c.in-On.ensures.kinds ∙ c.loop.invariant.kinds;
+      block = c.in-On.ensures.ran.1;
+      come = come_join S c.args.passes_syncs a c.args.layer.now (at (Block c.loop.position) c.loop.top) c.loop.layer None (at (Block c.in-On.next) c.run_block.new.top) c.run_block.new.layer c.loop.invariant.come c.in-On.ensures.ran.0;
+    }
+
+pub run_from-returns-in-Stopped-clause-ahead : goal.run_from-returns-in-Stopped-clause-ahead
+run_from-returns-in-Stopped-clause-ahead g t c =
+    stop_join (lent c.args.setting) c.args.passes_syncs (at (Block c.args.rest.position) c.args.top.now) c.args.layer.now (at (Block c.loop.position) c.loop.top) c.loop.layer c.in-Stopped.waiting c.run_block.new.top c.run_block.new.above c.run_block.new.layer c.loop.invariant.come c.in-Stopped.ensures.ran
+
+pub run_from-returns-in-Gave-clause-ahead : goal.run_from-returns-in-Gave-clause-ahead
+run_from-returns-in-Gave-clause-ahead g t c =
+    let S = lent c.args.setting in
+    let a = at (Block c.args.rest.position) c.args.top.now in
+    let same : c.in-Gave.value ≡ to_z w64 (of_z w64 c.in-Gave.value) = search rules in
+    subst (λ (v : ℤ). ComesTo S c.args.passes_syncs a c.args.layer.now (Some v) c.run_block.new.top c.run_block.new.layer) same
+    (come_join S c.args.passes_syncs a c.args.layer.now (at (Block c.loop.position) c.loop.top) c.loop.layer (Some c.in-Gave.value) c.run_block.new.top c.run_block.new.layer c.loop.invariant.come c.in-Gave.ensures.ran)
+
+pub run_from-returns-clause-ahead : goal.run_from-returns-clause-ahead
+run_from-returns-clause-ahead g t c =
+    let S = lent c.args.setting in
+    subst (λ (y : PlainActivation). StopsBy S c.args.passes_syncs (at (Block c.args.rest.position) c.args.top.now) c.args.layer.now 0 y c.loop.above c.loop.layer) (sym c.stand.ensures.stands)
+    (stop_here S c.args.passes_syncs (at (Block c.args.rest.position) c.args.top.now) c.args.layer.now (at (Block c.loop.position) c.loop.top) c.loop.above c.loop.layer c.loop.invariant.come)
+
+pub call-run_from-requires-clause-block : goal.call-run_from-requires-clause-block
+call-run_from-requires-clause-block g t c κs within = subst (λ (z : PlainActivation). IsBlock c.args.setting.program.now.codes z 0 c.args.callee.body.now) (sym c.begin.ensures.begun) c.requires.body
+
+pub call_inside-returns-in-Gave : goal.call_inside-returns-in-Gave
+call_inside-returns-in-Gave g t c =
+    let S = lent c.args.setting in
+    let p : Position = c.args.site.position in
+    let a : PlainActivation = c.args.top.now in
+    let l : PlainLayer = c.args.layer.now in
+    let i = c.args.site.statement.now in
+    let into = c.in-Enter.into in
+    let way = c.in-Enter.way in
+    let f = c.in-Enter.callee in
+    let es = c.in-Enter.arguments in
+    let slots : List Slot = c.fills.new.child.slots in
+    let k : PlainLayer = c.fills.new.layer in
+    let top : c.found_inside.new.top ≡ a = c.if-found_inside.ensures.top refl in
+    let layer : c.found_inside.new.layer ≡ l = c.if-found_inside.ensures.layer refl in
+    let deep : (a.left == 0) ≡ false = search rules in
+    let memo : memo_of S.codes f ≡ false = search rules in
+    let call : way ≡ Call = search rules in
+    let is_filled : c.fills.result ≡ true = search rules in
+    let found_slots : List Slot = c.found_inside.new.top.slots in
+    let filled : Fills (entry_at S.tables a.slots (slots_of S.codes f) (map expression es.items)) slots l k =
+    subst (λ (z : PlainLayer). Fills (entry_at S.tables a.slots (slots_of S.codes f) (map expression es.items)) slots z k) layer
+    (subst (λ (z : PlainActivation). Fills (entry_at S.tables z.slots (slots_of S.codes f) (map expression es.items)) slots c.found_inside.new.layer k) top
+    (subst (λ (n : ℕ). Fills (entry_at S.tables found_slots n (map expression es.items)) slots c.found_inside.new.layer k) c.slots-size.ensures.slots
+    (subst (λ (xs : List Expression). Fills (entry_at S.tables found_slots c.slots-size.result (map expression xs)) slots c.found_inside.new.layer k) c.as_slice.ensures.value (c.fills.ensures.filled is_filled)))) in
+    let left : c.left-2.result ≡ a.left = c.left-2.ensures.left ∙ ap (λ (z : PlainActivation). z.left) top in
+    let waits : c.wait_at.new.self ≡ waiting false into (Block (next_of p)) a = c.wait_at.ensures.waiting ∙ ap (λ (z : PlainActivation). waiting false into (Block (next_of p)) z) top in
+    let b : PlainActivation = c.call.new.child in
+    let u : PlainLayer = c.call.new.layer in
+    let v = to_z w64 (of_z w64 c.in-Gave.value) in
+    let same : c.in-Gave.value ≡ v = search rules in
+    let come : ComesTo S true (made f slots (Block (first_of 0)) (a.left - 1)) (entering f (depth_limit - (a.left - 1)) k) (Some v) b u =
+    subst (λ (n : ℤ). ComesTo S true (made f slots (Block (first_of 0)) (a.left - 1)) (entering f (depth_limit - (a.left - 1)) k) (Some n) b u) same
+    (subst (λ (n : ℕ). ComesTo S true (made f slots (Block (first_of 0)) (n - 1)) (entering f (depth_limit - (n - 1)) k) (Some c.in-Gave.value) b u) left c.in-Gave.ensures.ahead) in
+    let given : c.receive.new.self ≡ bound into (Has v) (waiting false into (Block (next_of p)) a) =
+    c.receive.ensures.received ∙ ap (λ (z : PlainActivation). bound z.into (Has v) z) waits in
+    record {
+      called = subst (λ (z : PlainActivation). CallsTo S true p a l Back z c.above-after u) (sym given)
+          ((refl, refl), call_returns S p a l i into way f es slots k deep memo filled call c.in-Enter.is c.requires.found v b u come);
+      long = search rules;
+      kinds = c.call.ensures.kinds ∙ ap (λ (z : PlainLayer). z.kinds) filled.1;
+    }
+
+pub call_inside-returns-in-Stopped : goal.call_inside-returns-in-Stopped
+call_inside-returns-in-Stopped g t c =
+    let S = lent c.args.setting in
+    let p : Position = c.args.site.position in
+    let a : PlainActivation = c.args.top.now in
+    let l : PlainLayer = c.args.layer.now in
+    let i = c.args.site.statement.now in
+    let into = c.in-Enter.into in
+    let way = c.in-Enter.way in
+    let f = c.in-Enter.callee in
+    let es = c.in-Enter.arguments in
+    let slots : List Slot = c.fills.new.child.slots in
+    let k : PlainLayer = c.fills.new.layer in
+    let top : c.found_inside.new.top ≡ a = c.if-found_inside.ensures.top refl in
+    let layer : c.found_inside.new.layer ≡ l = c.if-found_inside.ensures.layer refl in
+    let deep : (a.left == 0) ≡ false = search rules in
+    let memo : memo_of S.codes f ≡ false = search rules in
+    let call : way ≡ Call = search rules in
+    let is_filled : c.fills.result ≡ true = search rules in
+    let found_slots : List Slot = c.found_inside.new.top.slots in
+    let filled : Fills (entry_at S.tables a.slots (slots_of S.codes f) (map expression es.items)) slots l k =
+    subst (λ (z : PlainLayer). Fills (entry_at S.tables a.slots (slots_of S.codes f) (map expression es.items)) slots z k) layer
+    (subst (λ (z : PlainActivation). Fills (entry_at S.tables z.slots (slots_of S.codes f) (map expression es.items)) slots c.found_inside.new.layer k) top
+    (subst (λ (n : ℕ). Fills (entry_at S.tables found_slots n (map expression es.items)) slots c.found_inside.new.layer k) c.slots-size.ensures.slots
+    (subst (λ (xs : List Expression). Fills (entry_at S.tables found_slots c.slots-size.result (map expression xs)) slots c.found_inside.new.layer k) c.as_slice.ensures.value (c.fills.ensures.filled is_filled)))) in
+    let left : c.left-2.result ≡ a.left = c.left-2.ensures.left ∙ ap (λ (z : PlainActivation). z.left) top in
+    let waits : c.wait_at.new.self ≡ waiting false into (Block (next_of p)) a = c.wait_at.ensures.waiting ∙ ap (λ (z : PlainActivation). waiting false into (Block (next_of p)) z) top in
+    let b : PlainActivation = c.call.new.child in
+    let u : PlainLayer = c.call.new.layer in
+    let more = c.in-Stopped.waiting in
+    let ys : List PlainActivation = c.call.new.above in
+    let stop : StopsBy S true (made f slots (Block (first_of 0)) (a.left - 1)) (entering f (depth_limit - (a.left - 1)) k) more b ys u =
+    subst (λ (n : ℕ). StopsBy S true (made f slots (Block (first_of 0)) (n - 1)) (entering f (depth_limit - (n - 1)) k) more b ys u) left c.in-Stopped.ensures.ahead in
+    record {
+      called = subst (λ (z : PlainActivation). StopsBy S true (at (Block p) a) l (more + 1) z (b ∷ ys) u) (sym waits)
+          (subst (λ (n : ℕ). StopsBy S true (at (Block p) a) l n (waiting false into (Block (next_of p)) a) (b ∷ ys) u) (sym (add-one more))
+          (call_stays S p a l i into way f es slots k deep memo filled call c.in-Enter.is c.requires.found more b ys u stop));
+      long = search rules;
+      kinds = c.call.ensures.kinds ∙ ap (λ (z : PlainLayer). z.kinds) filled.1;
+    }
