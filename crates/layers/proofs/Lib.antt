@@ -11,3 +11,4 @@ pub mod Gatherings
 pub mod Ascending
 pub mod Few
 pub mod Alone
+pub mod Owners

@@ -4,3 +4,4 @@ pub mod Recordings
 pub mod Folds
 pub mod Gatherings
 pub mod Ranks
+pub mod Owners

@@ -3,6 +3,7 @@
 
 mod absorbing;
 pub mod closing;
+mod counts;
 mod few_values;
 mod gathered;
 mod joining;

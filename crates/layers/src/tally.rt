@@ -5,8 +5,10 @@ ghost use Rattle.record_theory.specs.Named.{AreValuesFrom, HaveValues};
 ghost use Rattle.positions.specs.Layers.{multiplied, covered, absorbing, kept_reads};
 ghost use Rattle.positions.specs.Tallies.{no_tally, passing, answering, opening, is_own, closing, tallies_joined, touched_from, entries_from};
 ghost use Rattle.layers.specs.Folds.{IsSameButWorths, HasSameProduct, BothHaveValues};
+ghost use Rattle.layers.specs.Owners.{owner_of};
 ghost use Rattle.view_pool.specs.Short.{value_in};
 
+use crate::counts::{one_more, sum};
 use crate::few_values::let_go;
 use crate::layer::Layer;
 use crate::leaves::{Leaf, record_of_two};
@@ -46,23 +48,6 @@ impl Model for Tally {
     } };
 
     ghost invariant = { λ t. IsRoomy t.made };
-}
-
-/// One more; refused where the count is at its limit.
-fn one_more(count: u64) -> Result<u64, AllocError>
-    ensures more { IfOk result (λ n. n ≡ suc count) }
-{
-    sum(count, 1)
-}
-
-/// The sum of two counts; refused where it is past the limit.
-fn sum(left: u64, right: u64) -> Result<u64, AllocError>
-    ensures sum { IfOk result (λ n. n ≡ left + right) }
-{
-    match left.checked_add(right) {
-        Some(count) => Ok(count),
-        None => Err(AllocError),
-    }
 }
 
 /// How many instances were executed, answered by a record, and executed without a layer.
@@ -188,12 +173,22 @@ impl Tally {
         }
     }
 
+    /// How long the name is of the instance whose layer is the topmost open one, if there is one.
+    fn owner(&self) -> Option<usize>
+        ensures owner { result ≡ owner_of self.now.opened }
+    {
+        match self.opened.last() {
+            Some(opened) => Some(opened.depth()),
+            None => None,
+        }
+    }
+
     /// Whether the topmost open layer is that of an instance whose name is so long or longer.
     pub fn owns_from(&self, depth: usize) -> bool
         ensures none { result ≡ false → (n : ℕ) → depth ≤ n → is_own self.now.opened n ≡ false }
     {
-        match self.opened.last() {
-            Some(opened) => depth <= opened.depth(),
+        match self.owner() {
+            Some(owner) => depth <= owner,
             None => false,
         }
     }
