@@ -114,7 +114,7 @@ fn run_from<V: View>(
 ) -> Ended
     requires block { IsBlock setting.program.now.codes top.old rest.position.block rest.statements.now }
     requires kinds { layer.old.kinds ≡ setting.program.now.kinds }
-    ensures ahead { EndsBy (lent setting.entry) passes_syncs (at (Work.Block rest.position) top.old) layer.old result
+    ensures ahead { EndsBy (lent setting.entry) passes_syncs (at (Work.Block rest.entry.position) top.old) layer.old result
         top.new above.new layer.new }
     ensures long { length above.new ≡ length above.old }
     ensures kinds { layer.new.kinds ≡ layer.old.kinds }
@@ -162,7 +162,7 @@ fn run_block<'a, V: View>(
 ) -> Ran<'a>
     requires block { IsBlock setting.program.now.codes top.old rest.position.block rest.statements.now }
     requires kinds { layer.old.kinds ≡ setting.program.now.kinds }
-    ensures ran { RunsTo (lent setting.entry) passes_syncs (at (Work.Block rest.position) top.old) layer.old result
+    ensures ran { RunsTo (lent setting.entry) passes_syncs (at (Work.Block rest.entry.position) top.old) layer.old result
         top.new above.new layer.new }
     ensures long { length above.new ≡ length above.old }
     ensures kinds { layer.new.kinds ≡ layer.old.kinds }
