@@ -51,7 +51,7 @@ abbrev pub ComesTo : Setting → Bool → PlainActivation → PlainLayer → Opt
 ComesTo setting passes a l given b m = (s : PlainStrand) → MayPass passes s → IsPath setting (topped Running a l s) (topped (phase_by given) b m s)
 
 -- so many instances stand above one, each of which has called the next one and waits for it
-pub stacked : ℕ → PlainActivation → List PlainActivation → PlainLayer → PlainStrand → PlainStrand
+abbrev pub stacked : ℕ → PlainActivation → List PlainActivation → PlainLayer → PlainStrand → PlainStrand
 stacked zero b xs m s = topped Running b m s
 stacked (suc n) b [] m s = topped Running b m s
 stacked (suc n) b (x ∷ xs) m s = stacked n x xs m (record s { path = s.path ++ b.children ∷ []; below = b ∷ s.below })
