@@ -2,6 +2,7 @@ use Rattle.activations.specs.Given.{lent}
 use Rattle.evaluation.specs.Values.{entry_at, value_at, values_at}
 use Rattle.linked_program.specs.CodeView.{expression, instruction_at, memo_of, slots_of}
 use Rattle.linked_program.specs.declared.code.Instruction.{Instruction}
+use Rattle.own_statements.proofs.Beside.{short_beside}
 use Rattle.own_statements.proofs.Calls.{call_returns, call_stays}
 use Rattle.own_statements.proofs.Choices.{chooses_if}
 use Rattle.own_statements.specs.Fills.{Fills}
@@ -39,16 +40,26 @@ run_block-loop-index-preserved g t c =
     let index = c.loop-index.index in
     let i = c.index-statements-index.result in
     let p : Position = record { block = c.args.rest.position.block; index = index } in
-    let b = c.loop-index.top in
     let there : index < length xs = search rules in
-    let found : Some i ≡ instruction_inside S.codes b.procedure (length b.outer) p =
+    let before = c.loop-index.top in
+    let l0 = c.loop-index.layer in
+    let there0 : Some i ≡ instruction_inside S.codes before.procedure (length before.outer) p =
     sym (slice_get_read xs (length xs) index i refl there c.index-statements-index.is) ∙ c.requires.block index
-    ∙ found_as S.codes c.args.top.now b p c.loop-index.invariant.same.0 c.loop-index.invariant.same.1 in
+    ∙ found_as S.codes c.args.top.now before p c.loop-index.invariant.same.0 c.loop-index.invariant.same.1 in
+    let b = c.perform_short.new.top in
+    let l = c.perform_short.new.layer in
+    let undone = c.in-Nothing.ensures.done in
+    let come : ComesTo S c.args.passes_syncs a c.args.layer.now None (at (Block p) b) l =
+    come_none S c.args.passes_syncs a c.args.layer.now p before l0 c.loop-index.invariant.come i there0 b l undone in
+    let within : IsInBlock c.args.top.now b =
+    (ap (λ (z : PlainActivation). z.procedure) undone.0 ∙ c.loop-index.invariant.same.0, ap (λ (z : PlainActivation). z.outer) undone.0 ∙ c.loop-index.invariant.same.1) in
+    let kept : l.kinds ≡ c.args.layer.now.kinds = c.perform_short.ensures.kinds ∙ c.loop-index.invariant.kinds in
+    let found : Some i ≡ instruction_inside S.codes b.procedure (length b.outer) p = there0 ∙ found_as S.codes before b p (ap (λ (z : PlainActivation). z.procedure) undone.0) (ap (λ (z : PlainActivation). z.outer) undone.0) in
     record {
       long = c.loop-index.invariant.long;
-      kinds = c.in-Next.ensures.kinds ∙ c.loop-index.invariant.kinds;
-      same = (c.in-Next.ensures.same_block.0 ∙ c.loop-index.invariant.same.0, c.in-Next.ensures.same_block.1 ∙ c.loop-index.invariant.same.1);
-      come = come_next S c.args.passes_syncs a c.args.layer.now p b c.loop-index.layer c.loop-index.invariant.come i found c.perform_alone.new.top c.perform_alone.new.layer c.in-Next.ensures.done;
+      kinds = c.in-Next-perform_alone.ensures.kinds ∙ kept;
+      same = (c.in-Next-perform_alone.ensures.same_block.0 ∙ within.0, c.in-Next-perform_alone.ensures.same_block.1 ∙ within.1);
+      come = come_next S c.args.passes_syncs a c.args.layer.now p b l come i found c.perform_alone.new.top c.perform_alone.new.layer c.in-Next-perform_alone.ensures.done;
     }
 
 pub run_block-loop-index-preserved-in-Update : goal.run_block-loop-index-preserved-in-Update
@@ -59,26 +70,36 @@ run_block-loop-index-preserved-in-Update g t c =
     let index = c.loop-index.index in
     let i = c.index-statements-index.result in
     let p : Position = record { block = c.args.rest.position.block; index = index } in
-    let b = c.loop-index.top in
     let there : index < length xs = search rules in
-    let found : Some i ≡ instruction_inside S.codes b.procedure (length b.outer) p =
+    let before = c.loop-index.top in
+    let l0 = c.loop-index.layer in
+    let there0 : Some i ≡ instruction_inside S.codes before.procedure (length before.outer) p =
     sym (slice_get_read xs (length xs) index i refl there c.index-statements-index.is) ∙ c.requires.block index
-    ∙ found_as S.codes c.args.top.now b p c.loop-index.invariant.same.0 c.loop-index.invariant.same.1 in
+    ∙ found_as S.codes c.args.top.now before p c.loop-index.invariant.same.0 c.loop-index.invariant.same.1 in
+    let b = c.perform_short.new.top in
+    let l = c.perform_short.new.layer in
+    let undone = c.in-Nothing.ensures.done in
+    let come : ComesTo S c.args.passes_syncs a c.args.layer.now None (at (Block p) b) l =
+    come_none S c.args.passes_syncs a c.args.layer.now p before l0 c.loop-index.invariant.come i there0 b l undone in
+    let within : IsInBlock c.args.top.now b =
+    (ap (λ (z : PlainActivation). z.procedure) undone.0 ∙ c.loop-index.invariant.same.0, ap (λ (z : PlainActivation). z.outer) undone.0 ∙ c.loop-index.invariant.same.1) in
+    let kept : l.kinds ≡ c.args.layer.now.kinds = c.perform_short.ensures.kinds ∙ c.loop-index.invariant.kinds in
+    let found : Some i ≡ instruction_inside S.codes b.procedure (length b.outer) p = there0 ∙ found_as S.codes before b p (ap (λ (z : PlainActivation). z.procedure) undone.0) (ap (λ (z : PlainActivation). z.outer) undone.0) in
     let t = c.combine_some.result in
     let did : t ≡ true = search rules in
     let es : c.as_slice-values.result.now ≡ c.in-Update.values.items = search rules in
     let r = c.in-Update.reducer in
     let m = c.combine_some.new.top in
     let n = c.combine_some.new.layer in
-    let done : Does c.args.passes_syncs p (λ kit. evaluated i.number (values_at S.tables b.slots (map expression c.as_slice-values.result.now)) (combining (slice_get S.kinds r) i.number p r)) b c.loop-index.layer Next m n =
-    subst (λ (u : Bool). Does c.args.passes_syncs p (λ kit. evaluated i.number (values_at S.tables b.slots (map expression c.as_slice-values.result.now)) (combining (slice_get S.kinds r) i.number p r)) b c.loop-index.layer (if u then Next else Nothing) m n) did c.combine_some.ensures.done in
+    let done : Does c.args.passes_syncs p (λ kit. evaluated i.number (values_at S.tables b.slots (map expression c.as_slice-values.result.now)) (combining (slice_get S.kinds r) i.number p r)) b l Next m n =
+    subst (λ (u : Bool). Does c.args.passes_syncs p (λ kit. evaluated i.number (values_at S.tables b.slots (map expression c.as_slice-values.result.now)) (combining (slice_get S.kinds r) i.number p r)) b l (if u then Next else Nothing) m n) did c.combine_some.ensures.done in
     let same : IsInBlock b m = subst (λ (u : Bool). OnNext (if u then Next else Nothing) (IsInBlock b m)) did c.combine_some.ensures.same_block in
     record {
       long = c.loop-index.invariant.long;
-      kinds = c.combine_some.ensures.kinds ∙ c.loop-index.invariant.kinds;
-      same = (same.0 ∙ c.loop-index.invariant.same.0, same.1 ∙ c.loop-index.invariant.same.1);
-      come = come_next S c.args.passes_syncs a c.args.layer.now p b c.loop-index.layer c.loop-index.invariant.come i found m n
-          (does_update S c.args.passes_syncs p i.number r c.in-Update.values c.as_slice-values.result.now i.operation b c.loop-index.layer Next m n c.in-Update.is es done);
+      kinds = c.combine_some.ensures.kinds ∙ kept;
+      same = (same.0 ∙ within.0, same.1 ∙ within.1);
+      come = come_next S c.args.passes_syncs a c.args.layer.now p b l come i found m n
+          (does_update S c.args.passes_syncs p i.number r c.in-Update.values c.as_slice-values.result.now i.operation b l Next m n c.in-Update.is es done);
     }
 
 pub run_block-returns-then-not-combine_some-clause-ran : goal.run_block-returns-then-not-combine_some-clause-ran
@@ -89,57 +110,87 @@ run_block-returns-then-not-combine_some-clause-ran g t c =
     let index = c.loop-index.index in
     let i = c.index-statements-index.result in
     let p : Position = record { block = c.args.rest.position.block; index = index } in
-    let b = c.loop-index.top in
     let there : index < length xs = search rules in
-    let found : Some i ≡ instruction_inside S.codes b.procedure (length b.outer) p =
+    let before = c.loop-index.top in
+    let l0 = c.loop-index.layer in
+    let there0 : Some i ≡ instruction_inside S.codes before.procedure (length before.outer) p =
     sym (slice_get_read xs (length xs) index i refl there c.index-statements-index.is) ∙ c.requires.block index
-    ∙ found_as S.codes c.args.top.now b p c.loop-index.invariant.same.0 c.loop-index.invariant.same.1 in
+    ∙ found_as S.codes c.args.top.now before p c.loop-index.invariant.same.0 c.loop-index.invariant.same.1 in
+    let b = c.perform_short.new.top in
+    let l = c.perform_short.new.layer in
+    let undone = c.in-Nothing.ensures.done in
+    let come : ComesTo S c.args.passes_syncs a c.args.layer.now None (at (Block p) b) l =
+    come_none S c.args.passes_syncs a c.args.layer.now p before l0 c.loop-index.invariant.come i there0 b l undone in
+    let within : IsInBlock c.args.top.now b =
+    (ap (λ (z : PlainActivation). z.procedure) undone.0 ∙ c.loop-index.invariant.same.0, ap (λ (z : PlainActivation). z.outer) undone.0 ∙ c.loop-index.invariant.same.1) in
+    let kept : l.kinds ≡ c.args.layer.now.kinds = c.perform_short.ensures.kinds ∙ c.loop-index.invariant.kinds in
+    let found : Some i ≡ instruction_inside S.codes b.procedure (length b.outer) p = there0 ∙ found_as S.codes before b p (ap (λ (z : PlainActivation). z.procedure) undone.0) (ap (λ (z : PlainActivation). z.outer) undone.0) in
     let t = c.combine_some.result in
     let did : t ≡ false = search rules in
     let es : c.as_slice-values.result.now ≡ c.in-Update.values.items = search rules in
     let r = c.in-Update.reducer in
     let m = c.combine_some.new.top in
     let n = c.combine_some.new.layer in
-    let done : Does c.args.passes_syncs p (λ kit. evaluated i.number (values_at S.tables b.slots (map expression c.as_slice-values.result.now)) (combining (slice_get S.kinds r) i.number p r)) b c.loop-index.layer Nothing m n =
-    subst (λ (u : Bool). Does c.args.passes_syncs p (λ kit. evaluated i.number (values_at S.tables b.slots (map expression c.as_slice-values.result.now)) (combining (slice_get S.kinds r) i.number p r)) b c.loop-index.layer (if u then Next else Nothing) m n) did c.combine_some.ensures.done in
-    subst (λ (y : PlainActivation). StopsBy S c.args.passes_syncs a c.args.layer.now 0 y c.loop-index.above n) (sym c.stand.ensures.stands)
-    (stop_here S c.args.passes_syncs a c.args.layer.now (at (Block p) m) c.loop-index.above n (come_none S c.args.passes_syncs a c.args.layer.now p b c.loop-index.layer c.loop-index.invariant.come i found m n
-    (does_update S c.args.passes_syncs p i.number r c.in-Update.values c.as_slice-values.result.now i.operation b c.loop-index.layer Nothing m n c.in-Update.is es done)))
+    let done : Does c.args.passes_syncs p (λ kit. evaluated i.number (values_at S.tables b.slots (map expression c.as_slice-values.result.now)) (combining (slice_get S.kinds r) i.number p r)) b l Nothing m n =
+    subst (λ (u : Bool). Does c.args.passes_syncs p (λ kit. evaluated i.number (values_at S.tables b.slots (map expression c.as_slice-values.result.now)) (combining (slice_get S.kinds r) i.number p r)) b l (if u then Next else Nothing) m n) did c.combine_some.ensures.done in
+    subst (λ (y : PlainActivation). StopsBy S c.args.passes_syncs a c.args.layer.now 0 y c.loop-index.above n) (sym c.stand-then-not-combine_some.ensures.stands)
+    (stop_here S c.args.passes_syncs a c.args.layer.now (at (Block p) m) c.loop-index.above n (come_none S c.args.passes_syncs a c.args.layer.now p b l come i found m n
+    (does_update S c.args.passes_syncs p i.number r c.in-Update.values c.as_slice-values.result.now i.operation b l Nothing m n c.in-Update.is es done)))
 
-pub run_block-returns-in-Moved-clause-ran : goal.run_block-returns-in-Moved-clause-ran
-run_block-returns-in-Moved-clause-ran g t c =
+pub run_block-returns-in-Moved-perform_alone-clause-ran : goal.run_block-returns-in-Moved-perform_alone-clause-ran
+run_block-returns-in-Moved-perform_alone-clause-ran g t c =
     let S = lent c.args.setting in
     let a = at (Block c.args.rest.position) c.args.top.now in
     let xs = c.args.rest.statements.now in
     let index = c.loop-index.index in
     let i = c.index-statements-index.result in
     let p : Position = record { block = c.args.rest.position.block; index = index } in
-    let b = c.loop-index.top in
     let there : index < length xs = search rules in
-    let found : Some i ≡ instruction_inside S.codes b.procedure (length b.outer) p =
+    let before = c.loop-index.top in
+    let l0 = c.loop-index.layer in
+    let there0 : Some i ≡ instruction_inside S.codes before.procedure (length before.outer) p =
     sym (slice_get_read xs (length xs) index i refl there c.index-statements-index.is) ∙ c.requires.block index
-    ∙ found_as S.codes c.args.top.now b p c.loop-index.invariant.same.0 c.loop-index.invariant.same.1 in
-    run_join S c.args.passes_syncs a c.args.layer.now c.perform_alone.new.top c.perform_alone.new.layer c.ran_to-in-Moved.result c.perform_alone.new.top c.loop-index.above c.perform_alone.new.layer
-    (come_moved S c.args.passes_syncs a c.args.layer.now p b c.loop-index.layer c.loop-index.invariant.come i found c.perform_alone.new.top c.perform_alone.new.layer c.in-Moved.ensures.done)
-    (c.ran_to-in-Moved.ensures.runs c.args.passes_syncs c.perform_alone.new.layer c.loop-index.above)
+    ∙ found_as S.codes c.args.top.now before p c.loop-index.invariant.same.0 c.loop-index.invariant.same.1 in
+    let b = c.perform_short.new.top in
+    let l = c.perform_short.new.layer in
+    let undone = c.in-Nothing.ensures.done in
+    let come : ComesTo S c.args.passes_syncs a c.args.layer.now None (at (Block p) b) l =
+    come_none S c.args.passes_syncs a c.args.layer.now p before l0 c.loop-index.invariant.come i there0 b l undone in
+    let within : IsInBlock c.args.top.now b =
+    (ap (λ (z : PlainActivation). z.procedure) undone.0 ∙ c.loop-index.invariant.same.0, ap (λ (z : PlainActivation). z.outer) undone.0 ∙ c.loop-index.invariant.same.1) in
+    let kept : l.kinds ≡ c.args.layer.now.kinds = c.perform_short.ensures.kinds ∙ c.loop-index.invariant.kinds in
+    let found : Some i ≡ instruction_inside S.codes b.procedure (length b.outer) p = there0 ∙ found_as S.codes before b p (ap (λ (z : PlainActivation). z.procedure) undone.0) (ap (λ (z : PlainActivation). z.outer) undone.0) in
+    run_join S c.args.passes_syncs a c.args.layer.now c.perform_alone.new.top c.perform_alone.new.layer c.ran_to-in-Moved-perform_alone.result c.perform_alone.new.top c.loop-index.above c.perform_alone.new.layer
+    (come_moved S c.args.passes_syncs a c.args.layer.now p b l come i found c.perform_alone.new.top c.perform_alone.new.layer c.in-Moved-perform_alone.ensures.done)
+    (c.ran_to-in-Moved-perform_alone.ensures.runs c.args.passes_syncs c.perform_alone.new.layer c.loop-index.above)
 
-pub run_block-returns-in-Gave-clause-ran : goal.run_block-returns-in-Gave-clause-ran
-run_block-returns-in-Gave-clause-ran g t c =
+pub run_block-returns-in-Gave-perform_alone-clause-ran : goal.run_block-returns-in-Gave-perform_alone-clause-ran
+run_block-returns-in-Gave-perform_alone-clause-ran g t c =
     let S = lent c.args.setting in
     let a = at (Block c.args.rest.position) c.args.top.now in
     let xs = c.args.rest.statements.now in
     let index = c.loop-index.index in
     let i = c.index-statements-index.result in
     let p : Position = record { block = c.args.rest.position.block; index = index } in
-    let b = c.loop-index.top in
     let there : index < length xs = search rules in
-    let found : Some i ≡ instruction_inside S.codes b.procedure (length b.outer) p =
+    let before = c.loop-index.top in
+    let l0 = c.loop-index.layer in
+    let there0 : Some i ≡ instruction_inside S.codes before.procedure (length before.outer) p =
     sym (slice_get_read xs (length xs) index i refl there c.index-statements-index.is) ∙ c.requires.block index
-    ∙ found_as S.codes c.args.top.now b p c.loop-index.invariant.same.0 c.loop-index.invariant.same.1 in
-    let same : c.in-Gave.value ≡ to_z w64 (of_z w64 c.in-Gave.value) = search rules in
-    subst (λ (v : ℤ). ComesTo S c.args.passes_syncs a c.args.layer.now (Some v) c.stand-in-Gave.new.self c.perform_alone.new.layer) same
-    (subst (λ (y : PlainActivation). ComesTo S c.args.passes_syncs a c.args.layer.now (Some c.in-Gave.value) y c.perform_alone.new.layer) (sym c.stand-in-Gave.ensures.stands)
-    (come_gave S c.args.passes_syncs a c.args.layer.now p b c.loop-index.layer c.loop-index.invariant.come i found c.perform_alone.new.top c.perform_alone.new.layer c.in-Gave.value c.in-Gave.ensures.done))
+    ∙ found_as S.codes c.args.top.now before p c.loop-index.invariant.same.0 c.loop-index.invariant.same.1 in
+    let b = c.perform_short.new.top in
+    let l = c.perform_short.new.layer in
+    let undone = c.in-Nothing.ensures.done in
+    let come : ComesTo S c.args.passes_syncs a c.args.layer.now None (at (Block p) b) l =
+    come_none S c.args.passes_syncs a c.args.layer.now p before l0 c.loop-index.invariant.come i there0 b l undone in
+    let within : IsInBlock c.args.top.now b =
+    (ap (λ (z : PlainActivation). z.procedure) undone.0 ∙ c.loop-index.invariant.same.0, ap (λ (z : PlainActivation). z.outer) undone.0 ∙ c.loop-index.invariant.same.1) in
+    let kept : l.kinds ≡ c.args.layer.now.kinds = c.perform_short.ensures.kinds ∙ c.loop-index.invariant.kinds in
+    let found : Some i ≡ instruction_inside S.codes b.procedure (length b.outer) p = there0 ∙ found_as S.codes before b p (ap (λ (z : PlainActivation). z.procedure) undone.0) (ap (λ (z : PlainActivation). z.outer) undone.0) in
+    let same : c.in-Gave-perform_alone.value ≡ to_z w64 (of_z w64 c.in-Gave-perform_alone.value) = search rules in
+    subst (λ (v : ℤ). ComesTo S c.args.passes_syncs a c.args.layer.now (Some v) c.stand-in-Gave-perform_alone.new.self c.perform_alone.new.layer) same
+    (subst (λ (y : PlainActivation). ComesTo S c.args.passes_syncs a c.args.layer.now (Some c.in-Gave-perform_alone.value) y c.perform_alone.new.layer) (sym c.stand-in-Gave-perform_alone.ensures.stands)
+    (come_gave S c.args.passes_syncs a c.args.layer.now p b l come i found c.perform_alone.new.top c.perform_alone.new.layer c.in-Gave-perform_alone.value c.in-Gave-perform_alone.ensures.done))
 
 pub run_block-returns-clause-ran : goal.run_block-returns-clause-ran
 run_block-returns-clause-ran g t c =
@@ -164,24 +215,34 @@ run_block-loop-index-preserved-in-Passed g t c =
     let index = c.loop-index.index in
     let i = c.index-statements-index.result in
     let p : Position = record { block = c.args.rest.position.block; index = index } in
-    let b = c.loop-index.top in
     let there : index < length xs = search rules in
-    let found : Some i ≡ instruction_inside S.codes b.procedure (length b.outer) p =
+    let before = c.loop-index.top in
+    let l0 = c.loop-index.layer in
+    let there0 : Some i ≡ instruction_inside S.codes before.procedure (length before.outer) p =
     sym (slice_get_read xs (length xs) index i refl there c.index-statements-index.is) ∙ c.requires.block index
-    ∙ found_as S.codes c.args.top.now b p c.loop-index.invariant.same.0 c.loop-index.invariant.same.1 in
+    ∙ found_as S.codes c.args.top.now before p c.loop-index.invariant.same.0 c.loop-index.invariant.same.1 in
+    let b = c.perform_short.new.top in
+    let l = c.perform_short.new.layer in
+    let undone = c.in-Nothing.ensures.done in
+    let come : ComesTo S c.args.passes_syncs a c.args.layer.now None (at (Block p) b) l =
+    come_none S c.args.passes_syncs a c.args.layer.now p before l0 c.loop-index.invariant.come i there0 b l undone in
+    let within : IsInBlock c.args.top.now b =
+    (ap (λ (z : PlainActivation). z.procedure) undone.0 ∙ c.loop-index.invariant.same.0, ap (λ (z : PlainActivation). z.outer) undone.0 ∙ c.loop-index.invariant.same.1) in
+    let kept : l.kinds ≡ c.args.layer.now.kinds = c.perform_short.ensures.kinds ∙ c.loop-index.invariant.kinds in
+    let found : Some i ≡ instruction_inside S.codes b.procedure (length b.outer) p = there0 ∙ found_as S.codes before b p (ap (λ (z : PlainActivation). z.procedure) undone.0) (ap (λ (z : PlainActivation). z.outer) undone.0) in
     let m = c.choose.new.top in
     let n = c.choose.new.layer in
     let block = c.in-If.second in
-    let done : (ch : Chosen) → Chooses c.args.passes_syncs p block (λ kit. evaluated i.number (value_at S.tables b.slots (expression c.in-If.condition)) (choosing p c.in-If.first block)) b c.loop-index.layer ch m n
-    → Chooses c.args.passes_syncs p block (λ kit. performed S kit p i.number i.operation) b c.loop-index.layer ch m n =
-    λ ch h. chooses_if S c.args.passes_syncs p i.number c.in-If.condition c.in-If.first block i.operation b c.loop-index.layer ch m n c.in-If.is h in
+    let done : (ch : Chosen) → Chooses c.args.passes_syncs p block (λ kit. evaluated i.number (value_at S.tables b.slots (expression c.in-If.condition)) (choosing p c.in-If.first block)) b l ch m n
+    → Chooses c.args.passes_syncs p block (λ kit. performed S kit p i.number i.operation) b l ch m n =
+    λ ch h. chooses_if S c.args.passes_syncs p i.number c.in-If.condition c.in-If.first block i.operation b l ch m n c.in-If.is h in
     let none : instruction_at S.codes m.procedure block 0 ≡ None =
     ap (λ f. instruction_at S.codes f block 0) c.in-Passed.ensures.same_block.0 ∙ c.in-Passed.ensures.empty in
     record {
       long = c.loop-index.invariant.long;
-      kinds = c.choose.ensures.kinds ∙ c.loop-index.invariant.kinds;
-      same = (c.in-Passed.ensures.same_block.0 ∙ c.loop-index.invariant.same.0, c.in-Passed.ensures.same_block.1 ∙ c.loop-index.invariant.same.1);
-      come = come_passed S c.args.passes_syncs a c.args.layer.now p b c.loop-index.layer c.loop-index.invariant.come i found m n block none (done chosen.Passed c.in-Passed.ensures.done);
+      kinds = c.choose.ensures.kinds ∙ kept;
+      same = (c.in-Passed.ensures.same_block.0 ∙ within.0, c.in-Passed.ensures.same_block.1 ∙ within.1);
+      come = come_passed S c.args.passes_syncs a c.args.layer.now p b l come i found m n block none (done chosen.Passed c.in-Passed.ensures.done);
     }
 
 pub run_block-returns-in-Inside-clause-ran : goal.run_block-returns-in-Inside-clause-ran
@@ -192,43 +253,63 @@ run_block-returns-in-Inside-clause-ran g t c =
     let index = c.loop-index.index in
     let i = c.index-statements-index.result in
     let p : Position = record { block = c.args.rest.position.block; index = index } in
-    let b = c.loop-index.top in
     let there : index < length xs = search rules in
-    let found : Some i ≡ instruction_inside S.codes b.procedure (length b.outer) p =
+    let before = c.loop-index.top in
+    let l0 = c.loop-index.layer in
+    let there0 : Some i ≡ instruction_inside S.codes before.procedure (length before.outer) p =
     sym (slice_get_read xs (length xs) index i refl there c.index-statements-index.is) ∙ c.requires.block index
-    ∙ found_as S.codes c.args.top.now b p c.loop-index.invariant.same.0 c.loop-index.invariant.same.1 in
+    ∙ found_as S.codes c.args.top.now before p c.loop-index.invariant.same.0 c.loop-index.invariant.same.1 in
+    let b = c.perform_short.new.top in
+    let l = c.perform_short.new.layer in
+    let undone = c.in-Nothing.ensures.done in
+    let come : ComesTo S c.args.passes_syncs a c.args.layer.now None (at (Block p) b) l =
+    come_none S c.args.passes_syncs a c.args.layer.now p before l0 c.loop-index.invariant.come i there0 b l undone in
+    let within : IsInBlock c.args.top.now b =
+    (ap (λ (z : PlainActivation). z.procedure) undone.0 ∙ c.loop-index.invariant.same.0, ap (λ (z : PlainActivation). z.outer) undone.0 ∙ c.loop-index.invariant.same.1) in
+    let kept : l.kinds ≡ c.args.layer.now.kinds = c.perform_short.ensures.kinds ∙ c.loop-index.invariant.kinds in
+    let found : Some i ≡ instruction_inside S.codes b.procedure (length b.outer) p = there0 ∙ found_as S.codes before b p (ap (λ (z : PlainActivation). z.procedure) undone.0) (ap (λ (z : PlainActivation). z.outer) undone.0) in
     let m = c.choose.new.top in
     let n = c.choose.new.layer in
     let block = c.in-If.second in
-    let done : (ch : Chosen) → Chooses c.args.passes_syncs p block (λ kit. evaluated i.number (value_at S.tables b.slots (expression c.in-If.condition)) (choosing p c.in-If.first block)) b c.loop-index.layer ch m n
-    → Chooses c.args.passes_syncs p block (λ kit. performed S kit p i.number i.operation) b c.loop-index.layer ch m n =
-    λ ch h. chooses_if S c.args.passes_syncs p i.number c.in-If.condition c.in-If.first block i.operation b c.loop-index.layer ch m n c.in-If.is h in
-    run_join S c.args.passes_syncs a c.args.layer.now m n c.ran_to.result m c.loop-index.above n
-    (come_inside S c.args.passes_syncs a c.args.layer.now p b c.loop-index.layer c.loop-index.invariant.come i found m n block (done chosen.Inside c.in-Inside.ensures.done))
-    (c.ran_to.ensures.runs c.args.passes_syncs n c.loop-index.above)
+    let done : (ch : Chosen) → Chooses c.args.passes_syncs p block (λ kit. evaluated i.number (value_at S.tables b.slots (expression c.in-If.condition)) (choosing p c.in-If.first block)) b l ch m n
+    → Chooses c.args.passes_syncs p block (λ kit. performed S kit p i.number i.operation) b l ch m n =
+    λ ch h. chooses_if S c.args.passes_syncs p i.number c.in-If.condition c.in-If.first block i.operation b l ch m n c.in-If.is h in
+    run_join S c.args.passes_syncs a c.args.layer.now m n c.ran_to-in-Inside.result m c.loop-index.above n
+    (come_inside S c.args.passes_syncs a c.args.layer.now p b l come i found m n block (done chosen.Inside c.in-Inside.ensures.done))
+    (c.ran_to-in-Inside.ensures.runs c.args.passes_syncs n c.loop-index.above)
 
-pub run_block-returns-in-Nothing-clause-ran : goal.run_block-returns-in-Nothing-clause-ran
-run_block-returns-in-Nothing-clause-ran g t c =
+pub run_block-returns-in-Nothing-choose-clause-ran : goal.run_block-returns-in-Nothing-choose-clause-ran
+run_block-returns-in-Nothing-choose-clause-ran g t c =
     let S = lent c.args.setting in
     let a = at (Block c.args.rest.position) c.args.top.now in
     let xs = c.args.rest.statements.now in
     let index = c.loop-index.index in
     let i = c.index-statements-index.result in
     let p : Position = record { block = c.args.rest.position.block; index = index } in
-    let b = c.loop-index.top in
     let there : index < length xs = search rules in
-    let found : Some i ≡ instruction_inside S.codes b.procedure (length b.outer) p =
+    let before = c.loop-index.top in
+    let l0 = c.loop-index.layer in
+    let there0 : Some i ≡ instruction_inside S.codes before.procedure (length before.outer) p =
     sym (slice_get_read xs (length xs) index i refl there c.index-statements-index.is) ∙ c.requires.block index
-    ∙ found_as S.codes c.args.top.now b p c.loop-index.invariant.same.0 c.loop-index.invariant.same.1 in
+    ∙ found_as S.codes c.args.top.now before p c.loop-index.invariant.same.0 c.loop-index.invariant.same.1 in
+    let b = c.perform_short.new.top in
+    let l = c.perform_short.new.layer in
+    let undone = c.in-Nothing.ensures.done in
+    let come : ComesTo S c.args.passes_syncs a c.args.layer.now None (at (Block p) b) l =
+    come_none S c.args.passes_syncs a c.args.layer.now p before l0 c.loop-index.invariant.come i there0 b l undone in
+    let within : IsInBlock c.args.top.now b =
+    (ap (λ (z : PlainActivation). z.procedure) undone.0 ∙ c.loop-index.invariant.same.0, ap (λ (z : PlainActivation). z.outer) undone.0 ∙ c.loop-index.invariant.same.1) in
+    let kept : l.kinds ≡ c.args.layer.now.kinds = c.perform_short.ensures.kinds ∙ c.loop-index.invariant.kinds in
+    let found : Some i ≡ instruction_inside S.codes b.procedure (length b.outer) p = there0 ∙ found_as S.codes before b p (ap (λ (z : PlainActivation). z.procedure) undone.0) (ap (λ (z : PlainActivation). z.outer) undone.0) in
     let m = c.choose.new.top in
     let n = c.choose.new.layer in
     let block = c.in-If.second in
-    let done : (ch : Chosen) → Chooses c.args.passes_syncs p block (λ kit. evaluated i.number (value_at S.tables b.slots (expression c.in-If.condition)) (choosing p c.in-If.first block)) b c.loop-index.layer ch m n
-    → Chooses c.args.passes_syncs p block (λ kit. performed S kit p i.number i.operation) b c.loop-index.layer ch m n =
-    λ ch h. chooses_if S c.args.passes_syncs p i.number c.in-If.condition c.in-If.first block i.operation b c.loop-index.layer ch m n c.in-If.is h in
-    subst (λ (y : PlainActivation). StopsBy S c.args.passes_syncs a c.args.layer.now 0 y c.loop-index.above n) (sym c.stand-in-Nothing.ensures.stands)
+    let done : (ch : Chosen) → Chooses c.args.passes_syncs p block (λ kit. evaluated i.number (value_at S.tables b.slots (expression c.in-If.condition)) (choosing p c.in-If.first block)) b l ch m n
+    → Chooses c.args.passes_syncs p block (λ kit. performed S kit p i.number i.operation) b l ch m n =
+    λ ch h. chooses_if S c.args.passes_syncs p i.number c.in-If.condition c.in-If.first block i.operation b l ch m n c.in-If.is h in
+    subst (λ (y : PlainActivation). StopsBy S c.args.passes_syncs a c.args.layer.now 0 y c.loop-index.above n) (sym c.stand-in-Nothing-choose.ensures.stands)
     (stop_here S c.args.passes_syncs a c.args.layer.now (at (Block p) m) c.loop-index.above n
-    (come_none S c.args.passes_syncs a c.args.layer.now p b c.loop-index.layer c.loop-index.invariant.come i found m n (done chosen.Nothing c.in-Nothing.ensures.done)))
+    (come_none S c.args.passes_syncs a c.args.layer.now p b l come i found m n (done chosen.Nothing c.in-Nothing-choose.ensures.done)))
 
 pub run_block-enters-requires-clause-found : goal.run_block-enters-requires-clause-found
 run_block-enters-requires-clause-found g t c κs within =
@@ -237,29 +318,145 @@ run_block-enters-requires-clause-found g t c κs within =
     let index = c.loop-index.index in
     let i = c.index-statements-index.result in
     let p : Position = record { block = c.args.rest.position.block; index = index } in
-    let b = c.loop-index.top in
     let there : index < length xs = search rules in
+    let before = c.loop-index.top in
+    let there0 : Some i ≡ instruction_inside S.codes before.procedure (length before.outer) p =
     sym (slice_get_read xs (length xs) index i refl there c.index-statements-index.is) ∙ c.requires.block index
-    ∙ found_as S.codes c.args.top.now b p c.loop-index.invariant.same.0 c.loop-index.invariant.same.1
+    ∙ found_as S.codes c.args.top.now before p c.loop-index.invariant.same.0 c.loop-index.invariant.same.1 in
+    let b = c.perform_short.new.top in
+    let undone = c.in-Nothing.ensures.done in
+    there0 ∙ found_as S.codes before b p (ap (λ (z : PlainActivation). z.procedure) undone.0) (ap (λ (z : PlainActivation). z.outer) undone.0)
 
 pub run_block-loop-index-preserved-in-Back : goal.run_block-loop-index-preserved-in-Back
 run_block-loop-index-preserved-in-Back g t c =
     let S = lent c.args.setting in
     let a = at (Block c.args.rest.position) c.args.top.now in
-    let p : Position = record { block = c.args.rest.position.block; index = c.loop-index.index } in
+    let xs = c.args.rest.statements.now in
+    let index = c.loop-index.index in
+    let i = c.index-statements-index.result in
+    let p : Position = record { block = c.args.rest.position.block; index = index } in
+    let there : index < length xs = search rules in
+    let before = c.loop-index.top in
+    let l0 = c.loop-index.layer in
+    let there0 : Some i ≡ instruction_inside S.codes before.procedure (length before.outer) p =
+    sym (slice_get_read xs (length xs) index i refl there c.index-statements-index.is) ∙ c.requires.block index
+    ∙ found_as S.codes c.args.top.now before p c.loop-index.invariant.same.0 c.loop-index.invariant.same.1 in
+    let b = c.perform_short.new.top in
+    let l = c.perform_short.new.layer in
+    let undone = c.in-Nothing.ensures.done in
+    let come : ComesTo S c.args.passes_syncs a c.args.layer.now None (at (Block p) b) l =
+    come_none S c.args.passes_syncs a c.args.layer.now p before l0 c.loop-index.invariant.come i there0 b l undone in
+    let within : IsInBlock c.args.top.now b =
+    (ap (λ (z : PlainActivation). z.procedure) undone.0 ∙ c.loop-index.invariant.same.0, ap (λ (z : PlainActivation). z.outer) undone.0 ∙ c.loop-index.invariant.same.1) in
+    let kept : l.kinds ≡ c.args.layer.now.kinds = c.perform_short.ensures.kinds ∙ c.loop-index.invariant.kinds in
+    let found : Some i ≡ instruction_inside S.codes b.procedure (length b.outer) p = there0 ∙ found_as S.codes before b p (ap (λ (z : PlainActivation). z.procedure) undone.0) (ap (λ (z : PlainActivation). z.outer) undone.0) in
     let called = c.in-Back.ensures.called in
     record {
-      kinds = c.enters.ensures.kinds ∙ c.loop-index.invariant.kinds;
+      kinds = c.enters.ensures.kinds ∙ kept;
       long = c.enters.ensures.long ∙ c.loop-index.invariant.long;
-      same = (called.0.0 ∙ c.loop-index.invariant.same.0, called.0.1 ∙ c.loop-index.invariant.same.1);
-      come = come_join S c.args.passes_syncs a c.args.layer.now (at (Block p) c.loop-index.top) c.loop-index.layer None (at (Block (next_of p)) c.enters.new.top) c.enters.new.layer c.loop-index.invariant.come called.1;
+      same = (called.0.0 ∙ within.0, called.0.1 ∙ within.1);
+      come = come_join S c.args.passes_syncs a c.args.layer.now (at (Block p) b) l None (at (Block (next_of p)) c.enters.new.top) c.enters.new.layer come called.1;
     }
 
 pub run_block-returns-in-Stays-clause-ran : goal.run_block-returns-in-Stays-clause-ran
 run_block-returns-in-Stays-clause-ran g t c =
-    let p : Position = record { block = c.args.rest.position.block; index = c.loop-index.index } in
-    stop_join (lent c.args.setting) c.args.passes_syncs (at (Block c.args.rest.position) c.args.top.now) c.args.layer.now (at (Block p) c.loop-index.top) c.loop-index.layer c.in-Stays.waiting c.enters.new.top c.enters.new.above c.enters.new.layer
-    c.loop-index.invariant.come c.in-Stays.ensures.called
+    let S = lent c.args.setting in
+    let a = at (Block c.args.rest.position) c.args.top.now in
+    let xs = c.args.rest.statements.now in
+    let index = c.loop-index.index in
+    let i = c.index-statements-index.result in
+    let p : Position = record { block = c.args.rest.position.block; index = index } in
+    let there : index < length xs = search rules in
+    let before = c.loop-index.top in
+    let l0 = c.loop-index.layer in
+    let there0 : Some i ≡ instruction_inside S.codes before.procedure (length before.outer) p =
+    sym (slice_get_read xs (length xs) index i refl there c.index-statements-index.is) ∙ c.requires.block index
+    ∙ found_as S.codes c.args.top.now before p c.loop-index.invariant.same.0 c.loop-index.invariant.same.1 in
+    let b = c.perform_short.new.top in
+    let l = c.perform_short.new.layer in
+    let undone = c.in-Nothing.ensures.done in
+    let come : ComesTo S c.args.passes_syncs a c.args.layer.now None (at (Block p) b) l =
+    come_none S c.args.passes_syncs a c.args.layer.now p before l0 c.loop-index.invariant.come i there0 b l undone in
+    let within : IsInBlock c.args.top.now b =
+    (ap (λ (z : PlainActivation). z.procedure) undone.0 ∙ c.loop-index.invariant.same.0, ap (λ (z : PlainActivation). z.outer) undone.0 ∙ c.loop-index.invariant.same.1) in
+    let kept : l.kinds ≡ c.args.layer.now.kinds = c.perform_short.ensures.kinds ∙ c.loop-index.invariant.kinds in
+    let found : Some i ≡ instruction_inside S.codes b.procedure (length b.outer) p = there0 ∙ found_as S.codes before b p (ap (λ (z : PlainActivation). z.procedure) undone.0) (ap (λ (z : PlainActivation). z.outer) undone.0) in
+    stop_join (lent c.args.setting) c.args.passes_syncs (at (Block c.args.rest.position) c.args.top.now) c.args.layer.now (at (Block p) b) l c.in-Stays.waiting c.enters.new.top c.enters.new.above c.enters.new.layer
+    come c.in-Stays.ensures.called
+
+pub run_block-perform_short-requires-clause-short : goal.run_block-perform_short-requires-clause-short
+run_block-perform_short-requires-clause-short g t c κs within =
+    let S = lent c.args.setting in
+    let a = at (Block c.args.rest.position) c.args.top.now in
+    let xs = c.args.rest.statements.now in
+    let index = c.loop-index.index in
+    let i = c.index-statements-index.result in
+    let p : Position = record { block = c.args.rest.position.block; index = index } in
+    let b = c.loop-index.top in
+    let there : index < length xs = search rules in
+    let found : Some i ≡ instruction_inside S.codes b.procedure (length b.outer) p =
+    sym (slice_get_read xs (length xs) index i refl there c.index-statements-index.is) ∙ c.requires.block index
+    ∙ found_as S.codes c.args.top.now b p c.loop-index.invariant.same.0 c.loop-index.invariant.same.1 in
+    short_beside S.kinds S.codes b.procedure (length b.outer) p i c.short.ensures.short found
+
+pub run_block-loop-index-preserved-in-Next : goal.run_block-loop-index-preserved-in-Next
+run_block-loop-index-preserved-in-Next g t c =
+    let S = lent c.args.setting in
+    let a = at (Block c.args.rest.position) c.args.top.now in
+    let xs = c.args.rest.statements.now in
+    let index = c.loop-index.index in
+    let i = c.index-statements-index.result in
+    let p : Position = record { block = c.args.rest.position.block; index = index } in
+    let b = c.loop-index.top in
+    let there : index < length xs = search rules in
+    let found : Some i ≡ instruction_inside S.codes b.procedure (length b.outer) p =
+    sym (slice_get_read xs (length xs) index i refl there c.index-statements-index.is) ∙ c.requires.block index
+    ∙ found_as S.codes c.args.top.now b p c.loop-index.invariant.same.0 c.loop-index.invariant.same.1 in
+    record {
+      long = c.loop-index.invariant.long;
+      kinds = c.perform_short.ensures.kinds ∙ c.loop-index.invariant.kinds;
+      same = (c.in-Next.ensures.same_block.0 ∙ c.loop-index.invariant.same.0, c.in-Next.ensures.same_block.1 ∙ c.loop-index.invariant.same.1);
+      come = come_next S c.args.passes_syncs a c.args.layer.now p b c.loop-index.layer c.loop-index.invariant.come i found c.perform_short.new.top c.perform_short.new.layer c.in-Next.ensures.done;
+    }
+
+pub run_block-returns-in-Gave-clause-ran : goal.run_block-returns-in-Gave-clause-ran
+run_block-returns-in-Gave-clause-ran g t c =
+    let S = lent c.args.setting in
+    let a = at (Block c.args.rest.position) c.args.top.now in
+    let xs = c.args.rest.statements.now in
+    let index = c.loop-index.index in
+    let i = c.index-statements-index.result in
+    let p : Position = record { block = c.args.rest.position.block; index = index } in
+    let b = c.loop-index.top in
+    let there : index < length xs = search rules in
+    let found : Some i ≡ instruction_inside S.codes b.procedure (length b.outer) p =
+    sym (slice_get_read xs (length xs) index i refl there c.index-statements-index.is) ∙ c.requires.block index
+    ∙ found_as S.codes c.args.top.now b p c.loop-index.invariant.same.0 c.loop-index.invariant.same.1 in
+    let n = c.perform_short.new.layer in
+    let v = c.in-Gave.value in
+    let same : v ≡ to_z w64 (of_z w64 v) = search rules in
+    subst (λ (w : ℤ). ComesTo S c.args.passes_syncs a c.args.layer.now (Some w) c.stand.new.self n) same
+    (subst (λ (y : PlainActivation). ComesTo S c.args.passes_syncs a c.args.layer.now (Some v) y n) (sym c.stand.ensures.stands)
+    (come_gave S c.args.passes_syncs a c.args.layer.now p b c.loop-index.layer c.loop-index.invariant.come i found c.perform_short.new.top n v c.in-Gave.ensures.done))
+
+pub run_block-returns-in-Moved-clause-ran : goal.run_block-returns-in-Moved-clause-ran
+run_block-returns-in-Moved-clause-ran g t c =
+    let S = lent c.args.setting in
+    let a = at (Block c.args.rest.position) c.args.top.now in
+    let xs = c.args.rest.statements.now in
+    let index = c.loop-index.index in
+    let i = c.index-statements-index.result in
+    let p : Position = record { block = c.args.rest.position.block; index = index } in
+    let b = c.loop-index.top in
+    let there : index < length xs = search rules in
+    let found : Some i ≡ instruction_inside S.codes b.procedure (length b.outer) p =
+    sym (slice_get_read xs (length xs) index i refl there c.index-statements-index.is) ∙ c.requires.block index
+    ∙ found_as S.codes c.args.top.now b p c.loop-index.invariant.same.0 c.loop-index.invariant.same.1 in
+    let m = c.perform_short.new.top in
+    let n = c.perform_short.new.layer in
+    run_join S c.args.passes_syncs a c.args.layer.now m n c.ran_to.result m c.loop-index.above n
+    (come_moved S c.args.passes_syncs a c.args.layer.now p b c.loop-index.layer c.loop-index.invariant.come i found m n c.in-Moved.ensures.done)
+    (c.ran_to.ensures.runs c.args.passes_syncs n c.loop-index.above)
 
 pub run_from-loop-init : goal.run_from-loop-init
 run_from-loop-init g t c =
@@ -330,7 +527,7 @@ call_inside-returns-in-Gave g t c =
     subst (λ (z : PlainLayer). Fills (entry_at S.tables a.slots (slots_of S.codes f) (map expression es.items)) slots z k) layer
     (subst (λ (z : PlainActivation). Fills (entry_at S.tables z.slots (slots_of S.codes f) (map expression es.items)) slots c.found_inside.new.layer k) top
     (subst (λ (n : ℕ). Fills (entry_at S.tables found_slots n (map expression es.items)) slots c.found_inside.new.layer k) c.slots-size.ensures.slots
-    (subst (λ (xs : List Expression). Fills (entry_at S.tables found_slots c.slots-size.result (map expression xs)) slots c.found_inside.new.layer k) c.as_slice.ensures.value (c.fills.ensures.filled is_filled)))) in
+    (subst (λ (xs : List Expression). Fills (entry_at S.tables found_slots c.slots-size.result (map expression xs)) slots c.found_inside.new.layer k) c.as_slice-arguments.ensures.value (c.fills.ensures.filled is_filled)))) in
     let left : c.left-2.result ≡ a.left = c.left-2.ensures.left ∙ ap (λ (z : PlainActivation). z.left) top in
     let waits : c.wait_at.new.self ≡ waiting false into (Block (next_of p)) a = c.wait_at.ensures.waiting ∙ ap (λ (z : PlainActivation). waiting false into (Block (next_of p)) z) top in
     let b : PlainActivation = c.call.new.child in
@@ -373,7 +570,7 @@ call_inside-returns-in-Stopped g t c =
     subst (λ (z : PlainLayer). Fills (entry_at S.tables a.slots (slots_of S.codes f) (map expression es.items)) slots z k) layer
     (subst (λ (z : PlainActivation). Fills (entry_at S.tables z.slots (slots_of S.codes f) (map expression es.items)) slots c.found_inside.new.layer k) top
     (subst (λ (n : ℕ). Fills (entry_at S.tables found_slots n (map expression es.items)) slots c.found_inside.new.layer k) c.slots-size.ensures.slots
-    (subst (λ (xs : List Expression). Fills (entry_at S.tables found_slots c.slots-size.result (map expression xs)) slots c.found_inside.new.layer k) c.as_slice.ensures.value (c.fills.ensures.filled is_filled)))) in
+    (subst (λ (xs : List Expression). Fills (entry_at S.tables found_slots c.slots-size.result (map expression xs)) slots c.found_inside.new.layer k) c.as_slice-arguments.ensures.value (c.fills.ensures.filled is_filled)))) in
     let left : c.left-2.result ≡ a.left = c.left-2.ensures.left ∙ ap (λ (z : PlainActivation). z.left) top in
     let waits : c.wait_at.new.self ≡ waiting false into (Block (next_of p)) a = c.wait_at.ensures.waiting ∙ ap (λ (z : PlainActivation). waiting false into (Block (next_of p)) z) top in
     let b : PlainActivation = c.call.new.child in

@@ -26,16 +26,16 @@ invariant-run_from-loop g l = record {
 }
 
 abbrev pub decreases-call_inside : goal.decreases-call_inside
-decreases-call_inside g l = length l.above * 5
+decreases-call_inside g l = length l.above.now * 5
 
 abbrev pub decreases-enters : goal.decreases-enters
-decreases-enters g l = length l.above * 5 + 1
+decreases-enters g l = length l.above.now * 5 + 1
 
 abbrev pub decreases-run_block : goal.decreases-run_block
-decreases-run_block g l = length l.above * 5 + 2
+decreases-run_block g l = length l.above.now * 5 + 2
 
 abbrev pub decreases-run_from : goal.decreases-run_from
-decreases-run_from g l = length l.above * 5 + 3
+decreases-run_from g l = length l.above.now * 5 + 3
 
 abbrev pub decreases-call : goal.decreases-call
-decreases-call g l = length l.above * 5 + 4
+decreases-call g l = length l.above.now * 5 + 4
