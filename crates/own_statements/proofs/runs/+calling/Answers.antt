@@ -24,7 +24,7 @@ use Rattle.positions.specs.Advance.{choosing, combining, evaluated, performed}
 use Rattle.positions.specs.Code.{instruction_inside}
 use Rattle.positions.specs.declared.work.Position.{Position}
 use Rattle.positions.specs.declared.work.Work.TheVariants.{Block}
-use Rattle.std.proofs.Common.{Bool, List, None, Some, ap, false, if◌then◌else◌, length, map, of_z, refl, rules, slice_get, subst, sym, to_z, true, w64, add-one, ℕ, ℤ, ◌+◌, ◌-◌, ◌==◌, ◌∷◌, ◌<◌, ◌∙◌, ◌≡◌, ◌≤◌}
+use Rattle.std.proofs.Common.{[], Bool, List, None, Some, ap, false, if◌then◌else◌, length, map, of_z, refl, rules, slice_get, subst, sym, to_z, true, w64, add-one, ℕ, ℤ, ◌+◌, ◌-◌, ◌==◌, ◌∷◌, ◌<◌, ◌∙◌, ◌≡◌, ◌≤◌}
 use Rattle.std.proofs.lemmas.Option.{slice_get_past, slice_get_read}
 use Rattle.own_statements.specs.declared.statements.Chosen.TheVariants as chosen
 use Rattle.own_statements.proofs.runs.+calling.Goals as goal
@@ -529,7 +529,8 @@ call_inside-returns-in-Gave g t c =
     (subst (λ (n : ℕ). Fills (entry_at S.tables found_slots n (map expression es.items)) slots c.found_inside.new.layer k) c.slots-size.ensures.slots
     (subst (λ (xs : List Expression). Fills (entry_at S.tables found_slots c.slots-size.result (map expression xs)) slots c.found_inside.new.layer k) c.as_slice-arguments.ensures.value (c.fills.ensures.filled is_filled)))) in
     let left : c.left-2.result ≡ a.left = c.left-2.ensures.left ∙ ap (λ (z : PlainActivation). z.left) top in
-    let waits : c.wait_at.new.self ≡ waiting false into (Block (next_of p)) a = c.wait_at.ensures.waiting ∙ ap (λ (z : PlainActivation). waiting false into (Block (next_of p)) z) top in
+    let waits : c.wait_at.new.self ≡ waiting false into (Block (next_of p)) a =
+    subst (λ (q : Position). c.wait_at.new.self ≡ waiting false into (Block q) c.found_inside.new.top) c.next_of.ensures.next c.wait_at.ensures.waiting ∙ ap (λ (z : PlainActivation). waiting false into (Block (next_of p)) z) top in
     let b : PlainActivation = c.call.new.child in
     let u : PlainLayer = c.call.new.layer in
     let v = to_z w64 (of_z w64 c.in-Gave.value) in
@@ -540,7 +541,7 @@ call_inside-returns-in-Gave g t c =
     let given : c.receive.new.self ≡ bound into (Has v) (waiting false into (Block (next_of p)) a) =
     c.receive.ensures.received ∙ ap (λ (z : PlainActivation). bound z.into (Has v) z) waits in
     record {
-      called = subst (λ (z : PlainActivation). CallsTo S true p a l Back z c.above-after u) (sym given)
+      called = subst (λ (z : PlainActivation). CallsTo S true p a l Back z [] u) (sym given)
           ((refl, refl), call_returns S p a l i into way f es slots k deep memo filled call c.in-Enter.is c.requires.found v b u come);
       long = search rules;
       kinds = c.call.ensures.kinds ∙ ap (λ (z : PlainLayer). z.kinds) filled.1;
@@ -572,7 +573,8 @@ call_inside-returns-in-Stopped g t c =
     (subst (λ (n : ℕ). Fills (entry_at S.tables found_slots n (map expression es.items)) slots c.found_inside.new.layer k) c.slots-size.ensures.slots
     (subst (λ (xs : List Expression). Fills (entry_at S.tables found_slots c.slots-size.result (map expression xs)) slots c.found_inside.new.layer k) c.as_slice-arguments.ensures.value (c.fills.ensures.filled is_filled)))) in
     let left : c.left-2.result ≡ a.left = c.left-2.ensures.left ∙ ap (λ (z : PlainActivation). z.left) top in
-    let waits : c.wait_at.new.self ≡ waiting false into (Block (next_of p)) a = c.wait_at.ensures.waiting ∙ ap (λ (z : PlainActivation). waiting false into (Block (next_of p)) z) top in
+    let waits : c.wait_at.new.self ≡ waiting false into (Block (next_of p)) a =
+    subst (λ (q : Position). c.wait_at.new.self ≡ waiting false into (Block q) c.found_inside.new.top) c.next_of.ensures.next c.wait_at.ensures.waiting ∙ ap (λ (z : PlainActivation). waiting false into (Block (next_of p)) z) top in
     let b : PlainActivation = c.call.new.child in
     let u : PlainLayer = c.call.new.layer in
     let more = c.in-Stopped.waiting in
