@@ -1,5 +1,5 @@
 //! What a strand has counted and recorded of memo instances.
-ghost use Rattle.std.specs.Prelude.{◌≡◌, ◌∷◌, [], suc, ◌+◌, ◌≤◌, true, false, IfOk, OnErr, OnOk, All, length};
+ghost use Rattle.std.specs.Prelude.{◌≡◌, ◌∷◌, [], suc, ◌+◌, ◌≤◌, ℕ, true, false, IfOk, OnErr, OnOk, All, length};
 ghost use Rattle.monoid_laws.specs.Kinds.{IsMonoid, identities, meaning};
 ghost use Rattle.record_theory.specs.Named.{AreValuesFrom, HaveValues};
 ghost use Rattle.positions.specs.Layers.{multiplied, covered, absorbing, kept_reads};

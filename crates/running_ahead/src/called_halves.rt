@@ -1,5 +1,5 @@
 //! Halves of a loop that are called and done in one go: one iteration after another, without the halves' parts on the strand.
-ghost use Rattle.std.specs.Prelude.{◌≡◌, ◌+◌, ◌<◌, ◌≤◌, ◌^◌, ◌==◌, ◌∷◌, List, true, false, All, IfSome, OnSome, length, reverse, vec_len, vec_capacity};
+ghost use Rattle.std.specs.Prelude.{◌≡◌, ◌+◌, ◌<◌, ◌≤◌, ◌^◌, ◌==◌, ◌∷◌, ℕ, List, true, false, All, IfSome, OnSome, length, reverse, vec_len, vec_capacity};
 ghost use Rattle.linked_program.specs.CodeView.{memo_of};
 ghost use Rattle.positions.specs.Activations.{ShareFits, at};
 ghost use Rattle.positions.specs.Code.{loop_at};
