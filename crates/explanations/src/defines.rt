@@ -13,7 +13,7 @@ use token_scanner::{LONGEST_TEXT, Mark, Placed, Token, tokens};
 
 /// Puts the line of a text at which it can't go on as one of procedures, and what is wrong or was expected there, at the end of the text.
 /// Line 0 is a text that is too long. Want of memory is the only error.
-pub fn push_bad_define(
+pub(crate) fn push_bad_define(
     alloc: Global,
     text: &mut Page,
     define: &[u8],
@@ -74,7 +74,7 @@ fn has_reducer_on(tokens: &[Placed], line: u32) -> bool {
 
 /// Puts the line by which a define would break a rule, what the rule asks for and how to mend it at the end of the text. It is a line of
 /// the define, or of the text that a procedure of the program has come from. Want of memory is the only error.
-pub fn push_broken(
+pub(crate) fn push_broken(
     alloc: Global,
     text: &mut Page,
     define: &[u8],

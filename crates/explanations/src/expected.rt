@@ -15,7 +15,7 @@ const LONGEST_BEGINNING: usize = 65_536;
 /// Puts a line about the token at which a program's text is refused, which is on that line of it, and what could stand in its place, at
 /// the end of the text. It is false, and nothing is put there, where no such token is found, or too much stands in front of it. Want of
 /// memory is the only error.
-pub fn push_expected(
+pub(crate) fn push_expected(
     alloc: Global,
     text: &mut Page,
     program: &[u8],

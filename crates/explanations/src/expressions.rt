@@ -18,7 +18,7 @@ const UNARY: u8 = 3;
 const ATOM: u8 = 4;
 
 /// The name of a variable of a procedure.
-pub fn variable(procedure: &Procedure, number: usize) -> &str {
+pub(crate) fn variable(procedure: &Procedure, number: usize) -> &str {
     match procedure.names.get(number) {
         Some(name) => name.as_str(),
         None => "",
@@ -26,7 +26,7 @@ pub fn variable(procedure: &Procedure, number: usize) -> &str {
 }
 
 /// Puts an expression, with as few parentheses as it can have, at the end of the text.
-pub fn push_expression(text: &mut Page, procedure: &Procedure, expression: &Expr) {
+pub(crate) fn push_expression(text: &mut Page, procedure: &Procedure, expression: &Expr) {
     push_part(text, procedure, expression, COMPARISON, MOST_NESTED)
 }
 

@@ -45,7 +45,11 @@ const FOLLOWERS: [Follower; 33] = [
 ];
 
 /// Puts what may follow such a beginning, which is one line, into an empty text; a comma between two. Want of memory is the only error.
-pub fn push_followers(alloc: Global, text: &mut Page, beginning: &str) -> Result<(), AllocError> {
+pub(crate) fn push_followers(
+    alloc: Global,
+    text: &mut Page,
+    beginning: &str,
+) -> Result<(), AllocError> {
     for follower in FOLLOWERS.iter() {
         if is_told(alloc, beginning, follower)? {
             push_next(text, follower.1);
@@ -77,7 +81,7 @@ fn is_told(alloc: Global, beginning: &str, follower: &Follower) -> Result<bool, 
 
 /// Whether a text may go on with a word behind such a beginning, which is one line; the empty word is the text's end. Want of memory is
 /// the only error.
-pub fn may_follow(alloc: Global, beginning: &str, word: &str) -> Result<bool, AllocError> {
+pub(crate) fn may_follow(alloc: Global, beginning: &str, word: &str) -> Result<bool, AllocError> {
     let mut page = Page::new(alloc);
     page.put(beginning);
     page.put(word);

@@ -19,7 +19,7 @@ const NO_NOT: &str =
 
 /// Puts how one does without what the token of that number is in other languages, or is behind the word in front of it, at the end of
 /// the text; nothing where it is nothing such. The line is the token's.
-pub fn push_habit(text: &mut Page, tokens: &[Placed], at: usize, line: &[u8]) {
+pub(crate) fn push_habit(text: &mut Page, tokens: &[Placed], at: usize, line: &[u8]) {
     let Some(refused) = tokens.get(at) else {
         return;
     };
@@ -80,7 +80,7 @@ fn push_odd_habit(text: &mut Page, line: &[u8]) {
 }
 
 /// What of a line, comments aside, is no name, number or mark of the language: the first such word, or mark; nothing where there is none.
-pub fn odd_in(line: &[u8]) -> &[u8] {
+pub(crate) fn odd_in(line: &[u8]) -> &[u8] {
     let mut word = 0;
     for (at, byte) in line.iter().enumerate() {
         if is_of_a_word(*byte) {
@@ -170,7 +170,7 @@ fn mark_at(line: &[u8], at: usize, byte: u8) -> &[u8] {
 }
 
 /// Whether a line binds a name that its own expression uses, as `x = x + 1;` does. Want of memory is the only error.
-pub fn binds_itself(alloc: Global, line: &[u8]) -> Result<bool, AllocError> {
+pub(crate) fn binds_itself(alloc: Global, line: &[u8]) -> Result<bool, AllocError> {
     if line.len() > LONGEST_TEXT {
         return Ok(false);
     }

@@ -4,7 +4,7 @@ use text_page::Page;
 use token_scanner::{Mark, Token};
 
 /// Puts a token, as a text has it, at the end of the text; in place of what is no token stands `!`, which is none either.
-pub fn push_token(text: &mut Page, token: Token<'_>) {
+pub(crate) fn push_token(text: &mut Page, token: Token<'_>) {
     match token {
         Token::Name(name) => text.put(name),
         Token::Number(number) => text.put_number("", number, ""),
@@ -14,7 +14,7 @@ pub fn push_token(text: &mut Page, token: Token<'_>) {
 }
 
 /// Whether a declaration begins at a token that has the other in front of it.
-pub fn begins_declaration(before: Option<Mark>, token: Token<'_>) -> bool {
+pub(crate) fn begins_declaration(before: Option<Mark>, token: Token<'_>) -> bool {
     match token {
         Token::Sign(Mark::Reducer | Mark::Memo) => true,
         Token::Sign(Mark::Proc) => before != Some(Mark::Memo),
@@ -23,7 +23,7 @@ pub fn begins_declaration(before: Option<Mark>, token: Token<'_>) -> bool {
 }
 
 /// The mark that a token is.
-pub fn mark_of(token: Token<'_>) -> Option<Mark> {
+pub(crate) fn mark_of(token: Token<'_>) -> Option<Mark> {
     match token {
         Token::Sign(mark) => Some(mark),
         _ => None,

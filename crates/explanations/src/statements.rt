@@ -5,7 +5,7 @@ use meaning::tree::{Action, Declaration, Expr, Procedure, Program, Statement, Wa
 use text_page::Page;
 
 /// The procedure of that number, counted from 0 in the order of the program.
-pub fn procedure_at(program: &Program, number: usize) -> Option<&Procedure> {
+pub(crate) fn procedure_at(program: &Program, number: usize) -> Option<&Procedure> {
     let mut before = number;
     for declaration in &program.declarations {
         if let Declaration::Procedure(procedure) = declaration {
@@ -19,7 +19,7 @@ pub fn procedure_at(program: &Program, number: usize) -> Option<&Procedure> {
 }
 
 /// The procedure of that name.
-pub fn procedure_called<'a>(program: &'a Program, name: &str) -> Option<&'a Procedure> {
+pub(crate) fn procedure_called<'a>(program: &'a Program, name: &str) -> Option<&'a Procedure> {
     for declaration in &program.declarations {
         if let Declaration::Procedure(procedure) = declaration {
             if procedure.name.as_str() == name {
@@ -31,7 +31,7 @@ pub fn procedure_called<'a>(program: &'a Program, name: &str) -> Option<&'a Proc
 }
 
 /// The statement of that number in a procedure.
-pub fn statement_at(procedure: &Procedure, number: u32) -> Option<&Statement> {
+pub(crate) fn statement_at(procedure: &Procedure, number: u32) -> Option<&Statement> {
     for block in &procedure.blocks {
         for statement in &block.statements {
             if statement.number == number {
@@ -43,7 +43,7 @@ pub fn statement_at(procedure: &Procedure, number: u32) -> Option<&Statement> {
 }
 
 /// The first statement of a procedure that stands on that line.
-pub fn statement_on(procedure: &Procedure, line: u32) -> Option<&Statement> {
+pub(crate) fn statement_on(procedure: &Procedure, line: u32) -> Option<&Statement> {
     for block in &procedure.blocks {
         for statement in &block.statements {
             if statement.line == line {
@@ -55,7 +55,7 @@ pub fn statement_on(procedure: &Procedure, line: u32) -> Option<&Statement> {
 }
 
 /// Puts what a statement of a procedure does, without the blocks inside it, at the end of the text.
-pub fn push_statement(text: &mut Page, procedure: &Procedure, action: &Action) {
+pub(crate) fn push_statement(text: &mut Page, procedure: &Procedure, action: &Action) {
     match action {
         Action::Bind(x, value) => {
             push_target(text, procedure, Some(*x));

@@ -11,7 +11,7 @@ use table_parts::bounds::is_column_count;
 use table_parts::found::index_of;
 
 /// Refuses a table of this name and these columns behind these tables, if it may not stand there.
-pub fn check(tables: &[Table], name: &str, columns: &[&str]) -> Result<(), AddError>
+pub(crate) fn check(tables: &[Table], name: &str, columns: &[&str]) -> Result<(), AddError>
     ensures allowed { OnOk result (refusal tables.now name.now (map (λ c. c.now) columns.now) ≡ None) }
     ensures refused { IfErr result (IsAddCause (refusal tables.now name.now (map (λ c. c.now) columns.now))) }
 {

@@ -17,7 +17,7 @@ pub const MOST_TABLES: usize = 64;
 
 /// The tables of a document in byte order of their names; refused at the 65th, else at the first faulty one, or for want of
 /// memory.
-pub fn tables_in(alloc: Global, document: &Document) -> Result<Vec<Table>, TablesError>
+pub(crate) fn tables_in(alloc: Global, document: &Document) -> Result<Vec<Table>, TablesError>
     ensures read { IfOk result (λ tables. reading_of (table_view document.now) ≡ Ok tables.items) }
     ensures refused { IfErr result (HasCauseIn (table_view document.now)) }
 {

@@ -63,7 +63,7 @@ fn is_keyword(text: &str) -> bool
 
 /// Whether a text has the form of a name in a program: a lower-case letter and then lower-case letters, digits and `_`,
 /// at most 32 bytes, and no keyword.
-pub fn is_name(text: &str) -> bool
+pub(crate) fn is_name(text: &str) -> bool
     ensures { result ≡ is_name text.now }
 {
     let bytes = text.as_bytes();

@@ -39,7 +39,7 @@ impl Model for Page {
 
 impl Page {
     /// A page of one row.
-    pub fn of_row(alloc: Global, number: i64, values: &[i64]) -> Result<Page, AllocError>
+    pub(crate) fn of_row(alloc: Global, number: i64, values: &[i64]) -> Result<Page, AllocError>
         ensures { IfOk result (λ page. page ≡ (number, values.now) ∷ []) }
     {
         let cells = Vec::from_slice(alloc, values)?;
@@ -56,7 +56,7 @@ impl Page {
 
     /// The values of the row of this number.
     #[inline(always)]
-    pub fn get(&self, number: i64) -> Option<&[i64]>
+    pub(crate) fn get(&self, number: i64) -> Option<&[i64]>
         requires { AreRising self.now }
         ensures { option_map (λ values. values.now) result ≡ row_of self.now number }
     {
@@ -68,7 +68,7 @@ impl Page {
 
     /// The values of the row of this number, where it stands at that place.
     #[inline(always)]
-    pub fn get_at(&self, place: usize, number: i64) -> Option<&[i64]>
+    pub(crate) fn get_at(&self, place: usize, number: i64) -> Option<&[i64]>
         requires { AreRising self.now }
         ensures { IfSome result (λ values. row_of self.now number ≡ Some values.now) }
     {
@@ -80,14 +80,14 @@ impl Page {
     }
 
     /// The greatest number.
-    pub fn last(&self) -> Option<i64>
+    pub(crate) fn last(&self) -> Option<i64>
         ensures { result ≡ last_of self.now }
     {
         last_number(&self.numbers)
     }
 
     /// Puts a row in the place of the one of its number, and says whether there was one. The totals of the columns follow.
-    pub fn put(
+    pub(crate) fn put(
         &mut self,
         number: i64,
         values: &[i64],
@@ -117,7 +117,7 @@ impl Page {
     }
 
     /// Takes the row of this number out, and says whether there was one. The totals of the columns follow.
-    pub fn delete(&mut self, number: i64, sums: &mut Vec<i64>) -> bool
+    pub(crate) fn delete(&mut self, number: i64, sums: &mut Vec<i64>) -> bool
         requires { AreRising self.old }
         ensures there { result ≡ is_there (row_of self.old number) }
         ensures gone { self.new ≡ row_gone number self.old }

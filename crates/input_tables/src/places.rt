@@ -9,7 +9,7 @@ const PLACES: usize = 64;
 
 /// The number of the page that covers a row. No row has a number below 0, so there is no page of those.
 #[inline(always)]
-pub fn page_of(row: i64) -> i64
+pub(crate) fn page_of(row: i64) -> i64
     ensures { result ≡ page_of row }
 {
     if row < 0 { -1 } else { row / PAGE_ROWS }
@@ -17,25 +17,25 @@ pub fn page_of(row: i64) -> i64
 
 /// Where a row stands in its page, if those before it on the page are all there. A number below 0 is no row's: any place will do.
 #[inline(always)]
-pub fn place_on_page(row: i64) -> usize {
+pub(crate) fn place_on_page(row: i64) -> usize {
     row.cast_unsigned() as usize % PLACES
 }
 
 /// Where a page stands, if those before it are all there. None stands at the place of a number below 0.
 #[inline(always)]
-pub fn place_among_pages(page: i64) -> usize {
+pub(crate) fn place_among_pages(page: i64) -> usize {
     page.cast_unsigned() as usize
 }
 
 /// Where the page of a row stands, if those before it are all there. For a number below 0 no place is so far back.
 #[inline(always)]
-pub fn place_of_page(row: i64) -> usize {
+pub(crate) fn place_of_page(row: i64) -> usize {
     row.cast_unsigned() as usize / PLACES
 }
 
 /// Whether the entry of this number stands at a place.
 #[inline(always)]
-pub fn stands_at<T>(entries: &[(i64, T)], number: i64, place: usize) -> bool
+pub(crate) fn stands_at<T>(entries: &[(i64, T)], number: i64, place: usize) -> bool
     ensures within { result ≡ true → place < length entries.now }
     ensures there { result ≡ true → IsOf number (slice_get entries.now place) }
 {
@@ -47,7 +47,7 @@ pub fn stands_at<T>(entries: &[(i64, T)], number: i64, place: usize) -> bool
 
 /// Where the entry of this number stands, or else where it is to be put. It is quick where the entry stands at `guess`.
 #[inline(always)]
-pub fn find<T>(entries: &[(i64, T)], number: i64, guess: usize) -> Result<usize, usize>
+pub(crate) fn find<T>(entries: &[(i64, T)], number: i64, guess: usize) -> Result<usize, usize>
     requires { AreRising entries.now }
     ensures place { IfOk result (λ place. place ≡ lower_count number entries.now) }
     ensures within { IfOk result (λ place. place < length entries.now) }

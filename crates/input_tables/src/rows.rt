@@ -54,7 +54,7 @@ fn values_fit(values: &[i64])
 
 impl Rows {
     /// No rows.
-    pub fn new(alloc: Global) -> Rows
+    pub(crate) fn new(alloc: Global) -> Rows
         ensures { result ≡ [] }
     {
         Rows {
@@ -65,7 +65,7 @@ impl Rows {
 
     /// The values of the row of this number.
     #[inline(always)]
-    pub fn get(&self, number: i64) -> Option<&[i64]>
+    pub(crate) fn get(&self, number: i64) -> Option<&[i64]>
         ensures { option_map (λ values. values.now) result ≡ row_of self.now number }
     {
         let page = page_of(number);
@@ -77,7 +77,7 @@ impl Rows {
 
     /// The values of the row of this number, where no row before it is missing; there may be such a row where none is found.
     #[inline(always)]
-    pub fn get_at_once(&self, number: i64) -> Option<&[i64]>
+    pub(crate) fn get_at_once(&self, number: i64) -> Option<&[i64]>
         ensures { IfSome result (λ values. row_of self.now number ≡ Some values.now) }
     {
         match self.pages.get(place_of_page(number)) {
@@ -87,21 +87,21 @@ impl Rows {
     }
 
     /// Whether there is a row of this number.
-    pub fn has(&self, number: i64) -> bool
+    pub(crate) fn has(&self, number: i64) -> bool
         ensures { result ≡ is_there (row_of self.now number) }
     {
         is_found(self.get(number))
     }
 
     /// What the type keeps: each cell is a number of 64 bits.
-    pub fn cells_fit(&self)
+    pub(crate) fn cells_fit(&self)
         ensures fit { RowsFit self.now }
     {
         let _ = &self.pages;
     }
 
     /// One more than the greatest number, or 0 where there are no rows.
-    pub fn limit(&self) -> i64
+    pub(crate) fn limit(&self) -> i64
         ensures { result ≡ above_all (pos 0) self.now }
     {
         match self.pages.last() {
@@ -114,7 +114,7 @@ impl Rows {
     }
 
     /// Puts a row in the place of the one of its number, and says whether there was one. The totals of the columns follow.
-    pub fn put(
+    pub(crate) fn put(
         &mut self,
         number: i64,
         values: &[i64],
@@ -145,7 +145,7 @@ impl Rows {
     }
 
     /// Takes the row of this number out, and says whether there was one. The totals of the columns follow.
-    pub fn delete(&mut self, number: i64, sums: &mut Vec<i64>) -> bool
+    pub(crate) fn delete(&mut self, number: i64, sums: &mut Vec<i64>) -> bool
         ensures there { result ≡ is_there (row_of self.old number) }
         ensures gone { self.new ≡ row_gone number self.old }
         ensures sums { sums.new.items ≡ without_row (row_of self.old number) sums.old.items }

@@ -19,7 +19,7 @@ use table_parts::found::index_of;
 use toml::{Table as Members, Value};
 
 /// The array at a key.
-pub fn array_at<'a>(members: &'a Members, key: &str) -> Option<&'a Vec<Value>>
+pub(crate) fn array_at<'a>(members: &'a Members, key: &str) -> Option<&'a Vec<Value>>
     ensures { option_map (λ items. array_view items.now) result
         ≡ array_at key.now (table_view members.now) }
 {
@@ -43,7 +43,7 @@ fn new_column(alloc: Global, columns: &[String], item: &Value) -> Result<String,
 }
 
 /// The 1 to 8 columns that an array names.
-pub fn columns_in(alloc: Global, items: &[Value]) -> Result<Vec<String>, Fault>
+pub(crate) fn columns_in(alloc: Global, items: &[Value]) -> Result<Vec<String>, Fault>
     ensures read { IfOk result (λ columns. columns_in (items_view items.now)
         ≡ Some (map string_bytes columns.items)) }
     ensures refused { IfErr result (IsFaulty (columns_in (items_view items.now))) }
@@ -177,7 +177,7 @@ fn add_item(
 }
 
 /// The rows that an array holds, each with so many values. The totals of so many columns, all 0, become theirs.
-pub fn rows_in(
+pub(crate) fn rows_in(
     alloc: Global,
     items: &[Value],
     columns: usize,

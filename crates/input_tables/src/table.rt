@@ -54,7 +54,11 @@ impl AsStr for Table {
 
 impl Table {
     /// A table without rows.
-    pub fn without_rows(alloc: Global, name: &str, columns: &[&str]) -> Result<Table, AllocError>
+    pub(crate) fn without_rows(
+        alloc: Global,
+        name: &str,
+        columns: &[&str],
+    ) -> Result<Table, AllocError>
         ensures { IfOk result (λ table. table ≡ without_rows name.now (map (λ c. c.now) columns.now)) }
     {
         let name = String::from_str(alloc, name)?;
@@ -69,28 +73,28 @@ impl Table {
     }
 
     /// Lends the table's name.
-    pub fn name(&self) -> &str
+    pub(crate) fn name(&self) -> &str
         ensures { result.now ≡ self.now.called }
     {
         self.name.as_str()
     }
 
     /// Lends the columns' names, as declared.
-    pub fn columns(&self) -> &[String]
+    pub(crate) fn columns(&self) -> &[String]
         ensures { map string_bytes result.now ≡ self.now.columns }
     {
         &self.columns
     }
 
     /// How many columns the table has.
-    pub fn column_count(&self) -> usize
+    pub(crate) fn column_count(&self) -> usize
         ensures { result ≡ length self.now.columns }
     {
         self.columns.len()
     }
 
     /// The number of the column of a name.
-    pub fn column(&self, name: &str) -> Option<usize>
+    pub(crate) fn column(&self, name: &str) -> Option<usize>
         ensures found { IfSome result (λ number. number ≡ index_of self.now.columns name.now) }
         ensures within { IfSome result (λ number. number < length self.now.columns) }
         ensures absent { IfNone result (index_of self.now.columns name.now
@@ -106,21 +110,21 @@ impl Table {
 
     /// The values of the row of this number, where no row before it is missing; there may be such a row where none is found.
     #[inline(always)]
-    pub fn row_at_once(&self, row: i64) -> Option<&[i64]>
+    pub(crate) fn row_at_once(&self, row: i64) -> Option<&[i64]>
         ensures { IfSome result (λ values. row_of self.now.rows row ≡ Some values.now) }
     {
         self.rows.get_at_once(row)
     }
 
     /// Lends the values of the row of this number.
-    pub fn row(&self, row: i64) -> Option<&[i64]>
+    pub(crate) fn row(&self, row: i64) -> Option<&[i64]>
         ensures { option_map (λ values. values.now) result ≡ row_of self.now.rows row }
     {
         self.rows.get(row)
     }
 
     /// How many columns the table has, and so how many values each of its rows.
-    pub fn width(&self) -> usize
+    pub(crate) fn width(&self) -> usize
         ensures columns { result ≡ length self.now.columns }
         ensures rows { AreWide result self.now.rows }
     {
@@ -129,7 +133,7 @@ impl Table {
 
     /// The value of a row in the column of this number.
     #[inline(always)]
-    pub fn cell(&self, row: i64, column: usize) -> Option<i64>
+    pub(crate) fn cell(&self, row: i64, column: usize) -> Option<i64>
         ensures { result ≡ at_column (row_of self.now.rows row) column }
     {
         match self.rows.get(row) {
@@ -139,21 +143,21 @@ impl Table {
     }
 
     /// Whether there is a row of this number.
-    pub fn has(&self, row: i64) -> bool
+    pub(crate) fn has(&self, row: i64) -> bool
         ensures { result ≡ is_there (row_of self.now.rows row) }
     {
         self.rows.has(row)
     }
 
     /// One more than the greatest number of a row, or 0 where there are no rows.
-    pub fn limit(&self) -> i64
+    pub(crate) fn limit(&self) -> i64
         ensures { result ≡ above_all (pos 0) self.now.rows }
     {
         self.rows.limit()
     }
 
     /// The sum of the column of this number over all rows, wrapped to 64 bits; 0 where there is no such column.
-    pub fn sum(&self, column: usize) -> i64
+    pub(crate) fn sum(&self, column: usize) -> i64
         ensures { result ≡ int_wrap w64 (column_total column self.now.rows) }
     {
         match self.sums.get(column) {
@@ -171,14 +175,14 @@ impl Table {
     }
 
     /// What the type keeps: each cell is a number of 64 bits.
-    pub fn cells_fit(&self)
+    pub(crate) fn cells_fit(&self)
         ensures fit { RowsFit self.now.rows }
     {
         self.rows.cells_fit();
     }
 
     /// Puts a row in the place of the one of its number.
-    pub fn put(&mut self, row: i64, values: &[i64]) -> Result<(), AllocError>
+    pub(crate) fn put(&mut self, row: i64, values: &[i64]) -> Result<(), AllocError>
         requires range { in_range row ≡ true }
         requires wide { length values.now ≡ length self.old.columns }
         ensures put { OnOk result (self.new ≡ with_rows self.old
@@ -190,7 +194,7 @@ impl Table {
     }
 
     /// Takes the row of this number out.
-    pub fn delete(&mut self, row: i64)
+    pub(crate) fn delete(&mut self, row: i64)
         ensures gone { self.new ≡ with_rows self.old (row_gone row self.old.rows) }
     {
         self.rows.delete(row, &mut self.sums);
@@ -219,7 +223,7 @@ fn copies(alloc: Global, names: &[&str]) -> Result<Vec<String>, AllocError>
 }
 
 /// The table of a name, and its place.
-pub fn find<'a>(tables: &'a [Table], name: &str) -> Option<(usize, &'a Table)>
+pub(crate) fn find<'a>(tables: &'a [Table], name: &str) -> Option<(usize, &'a Table)>
     ensures found { option_map (λ p. p.1.now) result ≡ table_of tables.now name.now }
     ensures number { IfSome result (λ p. p.0 ≡ index_of (names_of tables.now) name.now) }
     ensures within { IfSome result (λ p. p.0 < length tables.now) }
@@ -233,7 +237,7 @@ pub fn find<'a>(tables: &'a [Table], name: &str) -> Option<(usize, &'a Table)>
 }
 
 /// The table of a key and its value in a document; a fault where it isn't of the shape, or for want of memory.
-pub fn table_in(alloc: Global, name: &str, value: &Value) -> Result<Table, Fault>
+pub(crate) fn table_in(alloc: Global, name: &str, value: &Value) -> Result<Table, Fault>
     ensures read { IfOk result (λ table. table_in name.now (view value.now) ≡ Some table) }
     ensures refused { IfErr result (IsFaulty (table_in name.now (view value.now))) }
 {

@@ -23,7 +23,7 @@ use view_pool::View;
 /// Combines what the expressions' values name with a reducer's value. Numbers, and slots that have one, read nothing: where they
 /// are as many as the reducer takes, that is quickest.
 #[inline(always)]
-pub fn combine_some<V: View>(
+pub(crate) fn combine_some<V: View>(
     layer: &mut Layer<V>,
     setting: Setting<'_>,
     here: Here,

@@ -18,7 +18,7 @@ use view_pool::View;
 
 /// The value of a number, or of a slot that has one, which reads nothing; none of any other expression.
 #[inline(always)]
-pub fn number_at_once(expression: &Expression, slots: &[Slot]) -> Option<i64>
+pub(crate) fn number_at_once(expression: &Expression, slots: &[Slot]) -> Option<i64>
     ensures value { IfSome result (λ v. (all : TableList) → value_at all slots.now (plain expression.now) ≡ pure v) }
 {
     match expression {
@@ -47,7 +47,7 @@ pub(crate) fn number_there(slots: &[Slot], place: usize) -> Option<i64>
 /// compiled by itself, since it has many cases.
 #[inline(never)]
 #[tactic(auto, using(crate::proofs::AtOnce::pure_fills))]
-pub fn value_at_once<V: View>(
+pub(crate) fn value_at_once<V: View>(
     layer: &Layer<V>,
     expression: &Expression,
     slots: &[Slot],
@@ -86,7 +86,7 @@ pub(crate) fn on_row<V: View>(
 /// The value of an expression where it is found at once; that of a number, or of a slot that has one, without a call.
 #[inline(always)]
 #[tactic(auto, using(crate::proofs::AtOnce::pure_fills))]
-pub fn given_at_once<V: View>(
+pub(crate) fn given_at_once<V: View>(
     layer: &Layer<V>,
     expression: &Expression,
     slots: &[Slot],

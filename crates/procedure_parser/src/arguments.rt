@@ -15,7 +15,7 @@ use token_scanner::{Mark, Placed};
 
 /// An expression within the limits.
 #[tactic(auto, unfolding(crate::specs::Reading::whole_at))]
-pub fn whole<'a, 'b>(
+pub(crate) fn whole<'a, 'b>(
     alloc: Global,
     tokens: &'b [Placed<'a>],
 ) -> Result<(Expr, &'b [Placed<'a>]), ParseError>
@@ -66,7 +66,7 @@ fn more_expressions<'a, 'b>(
 
 /// Expressions with commas between them, at least one.
 #[tactic(auto, unfolding(crate::specs::Reading::exprs_at))]
-pub fn expressions<'a, 'b>(
+pub(crate) fn expressions<'a, 'b>(
     alloc: Global,
     tokens: &'b [Placed<'a>],
 ) -> Result<(Vec<Expr>, &'b [Placed<'a>]), ParseError>
@@ -80,7 +80,7 @@ pub fn expressions<'a, 'b>(
 
 /// Arguments in parentheses.
 #[tactic(auto, unfolding(crate::specs::Reading::args_at))]
-pub fn arguments<'a, 'b>(
+pub(crate) fn arguments<'a, 'b>(
     alloc: Global,
     tokens: &'b [Placed<'a>],
 ) -> Result<(Vec<Expr>, &'b [Placed<'a>]), ParseError>

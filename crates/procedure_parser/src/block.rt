@@ -169,7 +169,7 @@ fn body<'a, 'b>(
 /// A block, of which at most `nested` may be nested in one another.
 #[cycle(blocks)]
 #[tactic(auto, unfolding(crate::specs::Reading::block_at, crate::specs::Reading::over_as))]
-pub fn block<'a, 'b>(
+pub(crate) fn block<'a, 'b>(
     alloc: Global,
     nested: usize,
     tokens: &'b [Placed<'a>],

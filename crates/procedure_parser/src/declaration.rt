@@ -67,7 +67,7 @@ fn more_parameters<'a, 'b>(
 
 /// A procedure's parameters in parentheses, and the tokens after them.
 #[tactic(auto, unfolding(crate::specs::Reading::params_at))]
-pub fn parameters<'a, 'b>(
+pub(crate) fn parameters<'a, 'b>(
     alloc: Global,
     tokens: &'b [Placed<'a>],
 ) -> Result<(Vec<String>, &'b [Placed<'a>]), ParseError>
@@ -109,7 +109,7 @@ fn procedure<'a, 'b>(
 
 /// The words in front of a procedure's name: whether it is marked memo.
 #[tactic(auto, unfolding(crate::specs::Reading::procedure_word_at))]
-pub fn procedure_word<'a, 'b>(
+pub(crate) fn procedure_word<'a, 'b>(
     tokens: &'b [Placed<'a>],
 ) -> Result<(bool, &'b [Placed<'a>]), ParseError>
     ensures { Gives (λ x. (x.0, words x.1.now)) result (procedure_word_at (words tokens.now)) }
@@ -123,7 +123,7 @@ pub fn procedure_word<'a, 'b>(
 }
 
 /// Whether a procedure begins here.
-pub fn starts_procedure(tokens: &[Placed]) -> bool
+pub(crate) fn starts_procedure(tokens: &[Placed]) -> bool
     ensures { result ≡ starts_procedure (words tokens.now) }
 {
     starts(tokens, Mark::Memo) || starts(tokens, Mark::Proc)

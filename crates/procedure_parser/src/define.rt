@@ -117,7 +117,7 @@ fn defining<'a, 'b>(
 
 /// The procedures that the tokens define, where there is such room for them.
 #[tactic(auto, unfolding(crate::specs::Defining::definition_at))]
-pub fn definition(
+pub(crate) fn definition(
     alloc: Global,
     room: Room,
     tokens: &[Placed],

@@ -54,7 +54,7 @@ pub(crate) fn without<T: Drop>(_read: T, stop: ParseError) -> ParseError
 /// An expression within the limits.
 #[cycle(reading)]
 #[tactic(auto, unfolding(crate::specs::Reading::expr_at, crate::specs::Reading::expr_with))]
-pub fn expression<'a, 'b>(
+pub(crate) fn expression<'a, 'b>(
     alloc: Global,
     limits: Limits,
     tokens: &'b [Placed<'a>],

@@ -109,7 +109,7 @@ fn numbers<'a, 'b>(
 
 /// The numbers of an initial value, behind a kind; none where there is no `from`.
 #[tactic(auto, unfolding(crate::specs::Reading::initial_at))]
-pub fn initial<'a, 'b>(
+pub(crate) fn initial<'a, 'b>(
     alloc: Global,
     tokens: &'b [Placed<'a>],
 ) -> Result<(Vec<i64>, &'b [Placed<'a>]), ParseError>

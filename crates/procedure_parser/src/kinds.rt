@@ -146,7 +146,7 @@ fn sized_kind<'a, 'b>(
 
 /// A kind, behind the colon.
 #[tactic(auto, unfolding(crate::specs::Reading::kind_at))]
-pub fn kind<'a, 'b>(
+pub(crate) fn kind<'a, 'b>(
     alloc: Global,
     tokens: &'b [Placed<'a>],
 ) -> Result<(Kind, &'b [Placed<'a>]), ParseError>

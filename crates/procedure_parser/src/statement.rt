@@ -19,7 +19,7 @@ use token_scanner::{Mark, Placed};
 
 /// Behind `call` or `spawn`.
 #[tactic(auto, unfolding(crate::specs::Reading::entry_at))]
-pub fn entry<'a, 'b>(
+pub(crate) fn entry<'a, 'b>(
     alloc: Global,
     line: u32,
     bound: Option<String>,
@@ -86,7 +86,7 @@ fn bound<'a, 'b>(
 
 /// Behind the name that is bound.
 #[tactic(auto, unfolding(crate::specs::Reading::bind_at))]
-pub fn bind<'a, 'b>(
+pub(crate) fn bind<'a, 'b>(
     alloc: Global,
     line: u32,
     x: String,
@@ -101,7 +101,7 @@ pub fn bind<'a, 'b>(
 
 /// Behind `update`.
 #[tactic(auto, unfolding(crate::specs::Reading::update_at))]
-pub fn update<'a, 'b>(
+pub(crate) fn update<'a, 'b>(
     alloc: Global,
     line: u32,
     tokens: &'b [Placed<'a>],
@@ -116,7 +116,7 @@ pub fn update<'a, 'b>(
 
 /// Behind `return`.
 #[tactic(auto, unfolding(crate::specs::Reading::return_at))]
-pub fn return_value<'a, 'b>(
+pub(crate) fn return_value<'a, 'b>(
     alloc: Global,
     line: u32,
     tokens: &'b [Placed<'a>],
@@ -192,7 +192,7 @@ fn turns<'a, 'b>(
 
 /// Behind `cilk_for`.
 #[tactic(auto, unfolding(crate::specs::Reading::loop_at))]
-pub fn looping<'a, 'b>(
+pub(crate) fn looping<'a, 'b>(
     alloc: Global,
     line: u32,
     tokens: &'b [Placed<'a>],

@@ -229,7 +229,7 @@ fn copy_declaration(alloc: Global, declaration: &Declaration) -> Result<Declarat
 }
 
 /// The declarations again.
-pub fn copy_declarations(
+pub(crate) fn copy_declarations(
     alloc: Global,
     declarations: &[Declaration],
 ) -> Result<Vec<Declaration>, AllocError>

@@ -45,7 +45,7 @@ fn put_test(text: &mut String, procedure: &Procedure, condition: &Expr) -> Resul
 
 /// Puts the mark that closes a block at the end of the text.
 #[tactic(auto, unfolding(token_spelling::specs::Spelling::written))]
-pub fn put_close(text: &mut String) -> Result<(), AllocError>
+pub(crate) fn put_close(text: &mut String) -> Result<(), AllocError>
     ensures { OnOk result (GrowsByBlock text.old text.new (λ us. Sign mark.CloseBrace ∷ us)) }
 {
     text.push_str("}\n")
@@ -129,7 +129,7 @@ fn put_else(
 
 /// Puts the statements of a block at the end of the text.
 #[cycle(printing)]
-pub fn put_block(
+pub(crate) fn put_block(
     text: &mut String,
     procedure: &Procedure,
     levels: usize,

@@ -264,7 +264,10 @@ fn put_procedure(text: &mut String, procedure: &Procedure) -> Result<(), AllocEr
 }
 
 /// Puts a declaration at the end of the text.
-pub fn put_declaration(text: &mut String, declaration: &Declaration) -> Result<(), AllocError>
+pub(crate) fn put_declaration(
+    text: &mut String,
+    declaration: &Declaration,
+) -> Result<(), AllocError>
     ensures { OnOk result (GrowsByBlock text.old text.new (decl_words (decl declaration.now))) }
 {
     match declaration {

@@ -14,7 +14,7 @@ use std::fmt::Write;
 use token_spelling::{put_close, put_open};
 
 /// The name of a variable; none has a number past the pool's end.
-pub fn variable(procedure: &Procedure, number: usize) -> &str
+pub(crate) fn variable(procedure: &Procedure, number: usize) -> &str
     ensures { result.now ≡ variable (names_of procedure.now) number }
 {
     match procedure.names.get(number) {
@@ -81,7 +81,7 @@ fn put_binary(
 /// Puts an expression at the end of the text.
 #[cycle(expressions)]
 #[tactic(auto, unfolding(token_spelling::specs::Spelling::written))]
-pub fn put_expression(
+pub(crate) fn put_expression(
     text: &mut String,
     procedure: &Procedure,
     expr: &Expr,

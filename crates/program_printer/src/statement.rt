@@ -63,7 +63,7 @@ fn put_expressions(
 
 /// Puts the name of the procedure that is entered, its arguments and the end of the statement at the end of the text.
 #[tactic(auto, unfolding(token_spelling::specs::Spelling::written))]
-pub fn put_entry(
+pub(crate) fn put_entry(
     text: &mut String,
     procedure: &Procedure,
     callee: &str,
@@ -111,7 +111,7 @@ fn put_last(text: &mut String, procedure: &Procedure, expr: &Expr) -> Result<(),
 }
 
 /// Puts a statement that binds a variable to a value at the end of the text.
-pub fn put_bind(
+pub(crate) fn put_bind(
     text: &mut String,
     procedure: &Procedure,
     number: usize,
@@ -125,7 +125,7 @@ pub fn put_bind(
 }
 
 /// Puts a statement that enters a procedure at the end of the text.
-pub fn put_enter(
+pub(crate) fn put_enter(
     text: &mut String,
     procedure: &Procedure,
     bound: Option<usize>,
@@ -143,7 +143,7 @@ pub fn put_enter(
 
 /// Puts a statement that binds a variable to a reducer's value at the end of the text.
 #[tactic(auto, unfolding(token_spelling::specs::Spelling::written))]
-pub fn put_read(
+pub(crate) fn put_read(
     text: &mut String,
     procedure: &Procedure,
     number: usize,
@@ -158,7 +158,7 @@ pub fn put_read(
 
 /// Puts a statement that waits for all children at the end of the text.
 #[tactic(auto, unfolding(token_spelling::specs::Spelling::written))]
-pub fn put_sync(text: &mut String) -> Result<(), AllocError>
+pub(crate) fn put_sync(text: &mut String) -> Result<(), AllocError>
     ensures { OnOk result (Grows text.old text.new
         (λ us. Sign mark.Sync ∷ Sign mark.Semicolon ∷ us)) }
 {
@@ -167,7 +167,7 @@ pub fn put_sync(text: &mut String) -> Result<(), AllocError>
 
 /// Puts a statement that updates a reducer at the end of the text.
 #[tactic(auto, unfolding(token_spelling::specs::Spelling::written))]
-pub fn put_update(
+pub(crate) fn put_update(
     text: &mut String,
     procedure: &Procedure,
     reducer: &str,
@@ -200,7 +200,7 @@ fn put_range(
 
 /// Puts what stands before the procedure that a loop enters at the end of the text.
 #[tactic(auto, unfolding(token_spelling::specs::Spelling::written))]
-pub fn put_loop_head(
+pub(crate) fn put_loop_head(
     text: &mut String,
     procedure: &Procedure,
     number: usize,
@@ -218,7 +218,11 @@ pub fn put_loop_head(
 
 /// Puts a statement that gives the procedure's value at the end of the text.
 #[tactic(auto, unfolding(token_spelling::specs::Spelling::written))]
-pub fn put_return(text: &mut String, procedure: &Procedure, value: &Expr) -> Result<(), AllocError>
+pub(crate) fn put_return(
+    text: &mut String,
+    procedure: &Procedure,
+    value: &Expr,
+) -> Result<(), AllocError>
     ensures { OnOk result (Grows text.old text.new
         (deed_words (names_of procedure.now) (give (term value.now)))) }
 {

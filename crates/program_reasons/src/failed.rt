@@ -9,7 +9,7 @@ use std::{fs, io};
 
 /// Puts why the file at a path failed, which is one that the options name, at the end of the text; nothing where the system doesn't say.
 /// Want of memory is the only error.
-pub fn push_failed(
+pub(crate) fn push_failed(
     text: &mut String,
     files: &impl Files,
     path: &str,
@@ -36,7 +36,7 @@ pub fn push_failed(
 }
 
 /// Puts why a program's file can't be read. Want of memory is the only error.
-pub fn push_failed_program(
+pub(crate) fn push_failed_program(
     text: &mut String,
     files: &impl Files,
     path: &str,

@@ -33,7 +33,7 @@ pub enum Halt {
 
 /// Where the expression's first fault is a row that isn't there, that row; `Unknown` where it is another. In an expression that has a
 /// value nothing is found.
-pub fn searched(
+pub(crate) fn searched(
     tables: &Tables,
     slots: &[Slot],
     expression: &Expression,

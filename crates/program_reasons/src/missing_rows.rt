@@ -28,7 +28,7 @@ struct Iterations<'a> {
 
 /// The first row that a program's run on these tables, done serially and from scratch, reads and that isn't there. None where the run
 /// ends otherwise, reads a reducer before, or asks for too many values.
-pub fn first_missing(alloc: Global, checked: &Checked, tables: &Tables) -> Option<Missed>
+pub(crate) fn first_missing(alloc: Global, checked: &Checked, tables: &Tables) -> Option<Missed>
     ensures absent { IfSome result (IsAbsent tables.now.tables) }
 {
     let ground = Ground {

@@ -38,7 +38,7 @@ pub struct Asked {
 
 impl Asked {
     /// Nothing yet.
-    pub fn new(alloc: Global) -> Asked
+    pub(crate) fn new(alloc: Global) -> Asked
         ensures unread { result.notes ≡ [] }
         ensures uncounted { result.values ≡ 0 }
     {
@@ -77,7 +77,7 @@ impl Asked {
 }
 
 /// The value of an expression.
-pub fn value_of(
+pub(crate) fn value_of(
     ground: Ground<'_>,
     expression: &Expression,
     slots: &[Slot],
@@ -97,7 +97,7 @@ pub fn value_of(
 }
 
 /// Asks for the values of expressions, from left to right.
-pub fn ask_all(
+pub(crate) fn ask_all(
     ground: Ground<'_>,
     expressions: &[Expression],
     slots: &[Slot],
@@ -116,7 +116,7 @@ pub fn ask_all(
 }
 
 /// The range of a loop.
-pub fn range_of(
+pub(crate) fn range_of(
     ground: Ground<'_>,
     low: &Expression,
     high: &Expression,
@@ -137,7 +137,7 @@ pub fn range_of(
 }
 
 /// The slots with which an instance of the procedure of that number begins.
-pub fn slots_of(
+pub(crate) fn slots_of(
     ground: Ground<'_>,
     procedure: usize,
     arguments: &[Expression],
@@ -171,7 +171,7 @@ pub fn slots_of(
 }
 
 /// Gives a slot its value.
-pub fn put(slots: &mut Vec<Slot>, number: usize, value: i64)
+pub(crate) fn put(slots: &mut Vec<Slot>, number: usize, value: i64)
     ensures put { slots.new.items ≡ slice_set slots.old.items number (Has value) }
 {
     if number < slots.len() {

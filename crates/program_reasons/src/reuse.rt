@@ -12,7 +12,7 @@ use text_page::Page;
 
 /// What the memo instances of a run by that crew come to that begins with these tables and records, and why. Want of memory is the only
 /// error.
-pub fn reuse_text(
+pub(crate) fn reuse_text(
     alloc: Global,
     crew: Crew,
     checked: &Checked,
@@ -28,7 +28,7 @@ pub fn reuse_text(
 }
 
 /// Those reasons behind the run's number, and how many instances it left unrecorded, if it did. Want of memory is the only error.
-pub fn outcome_text(
+pub(crate) fn outcome_text(
     alloc: Global,
     number: usize,
     reuse: &str,

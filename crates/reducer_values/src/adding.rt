@@ -29,7 +29,11 @@ fn key_index(amounts: &[(i64, i64)], key: i64) -> usize
 }
 
 /// Adds an amount at a key, whose keys rise. Want of memory is the only error.
-pub fn add_amount(amounts: &mut Vec<(i64, i64)>, key: i64, amount: i64) -> Result<(), AllocError>
+pub(crate) fn add_amount(
+    amounts: &mut Vec<(i64, i64)>,
+    key: i64,
+    amount: i64,
+) -> Result<(), AllocError>
     requires { IsRising amounts.old.items }
     ensures added { OnOk result (amounts.new.items ≡ add_at key amount amounts.old.items) }
     ensures refused { OnErr result (amounts.new.items ≡ amounts.old.items) }
@@ -49,7 +53,7 @@ pub fn add_amount(amounts: &mut Vec<(i64, i64)>, key: i64, amount: i64) -> Resul
 }
 
 /// The amounts of both, by key, each of which has rising keys. Want of memory is the only error.
-pub fn merge_amounts(
+pub(crate) fn merge_amounts(
     alloc: Global,
     left: &[(i64, i64)],
     right: &[(i64, i64)],

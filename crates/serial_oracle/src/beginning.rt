@@ -102,7 +102,7 @@ fn note_value(
 }
 
 /// The updates by the initial values, reducer by reducer.
-pub fn initial_changes(scope: &Scope) -> Result<Vec<Change>, AllocError>
+pub(crate) fn initial_changes(scope: &Scope) -> Result<Vec<Change>, AllocError>
     ensures { IfOk result (λ changes. noted_in scope.now changes.items
         ≡ beginning (tree_in scope.now)) }
 {

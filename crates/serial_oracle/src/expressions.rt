@@ -61,7 +61,11 @@ fn applied(op: Operator, x: i64, y: i64) -> Result<i64, FaultKind>
 }
 
 /// The value of an expression, or its fault.
-pub fn evaluate(tables: &[TableRows], env: &[Option<i64>], e: &Expr) -> Result<i64, FaultKind>
+pub(crate) fn evaluate(
+    tables: &[TableRows],
+    env: &[Option<i64>],
+    e: &Expr,
+) -> Result<i64, FaultKind>
     ensures { result ≡ (value (tables_plain tables.now) env.now (term e.now)).answer }
 {
     match e {
@@ -93,7 +97,7 @@ pub fn evaluate(tables: &[TableRows], env: &[Option<i64>], e: &Expr) -> Result<i
 }
 
 /// The values of expressions, from left to right.
-pub fn all_values(
+pub(crate) fn all_values(
     alloc: Global,
     tables: &[TableRows],
     env: &[Option<i64>],

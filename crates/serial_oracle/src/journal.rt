@@ -28,7 +28,7 @@ pub struct Journal<'p> {
 }
 
 /// A journal of these changes, and of no memo instances.
-pub fn begun<'p>(alloc: Global, changes: Vec<Change>) -> Journal<'p>
+pub(crate) fn begun<'p>(alloc: Global, changes: Vec<Change>) -> Journal<'p>
     ensures changes { result.changes ≡ changes }
     ensures executed { result.executed.items ≡ [] }
     ensures reused { result.reused.items ≡ [] }
@@ -57,7 +57,7 @@ fn add_key<'p>(
 }
 
 /// Notes that a memo instance is run.
-pub fn note_executed<'p>(
+pub(crate) fn note_executed<'p>(
     alloc: Global,
     journal: &mut Journal<'p>,
     name: &'p str,
@@ -72,7 +72,7 @@ pub fn note_executed<'p>(
 }
 
 /// Notes that the record at a place answers a memo instance.
-pub fn note_reused<'p>(
+pub(crate) fn note_reused<'p>(
     alloc: Global,
     journal: &mut Journal<'p>,
     place: usize,

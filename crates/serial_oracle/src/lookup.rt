@@ -7,7 +7,7 @@ ghost use Rattle.serial_oracle.specs.Listing.{rows_plain, tables_plain};
 use crate::tables::{Row, TableRows};
 
 /// The rows of a table, none where there is no such table.
-pub fn rows<'a>(tables: &'a [TableRows], name: &str) -> &'a [Row]
+pub(crate) fn rows<'a>(tables: &'a [TableRows], name: &str) -> &'a [Row]
     ensures { rows_plain result.now ≡ rows_of (tables_plain tables.now) name.now }
 {
     for table in tables {
@@ -19,7 +19,7 @@ pub fn rows<'a>(tables: &'a [TableRows], name: &str) -> &'a [Row]
 }
 
 /// The place of a column in a table.
-pub fn column(tables: &[TableRows], name: &str, wanted: &str) -> usize
+pub(crate) fn column(tables: &[TableRows], name: &str, wanted: &str) -> usize
     ensures { result ≡ index_of (columns_of (tables_plain tables.now) name.now) wanted.now }
 {
     for table in tables {
@@ -42,7 +42,7 @@ fn place(columns: &[String], wanted: &str) -> usize
 }
 
 /// The row of a number.
-pub fn row_values(rows: &[Row], number: i64) -> Option<&Vec<i64>>
+pub(crate) fn row_values(rows: &[Row], number: i64) -> Option<&Vec<i64>>
     ensures { option_map (λ v. v.now.items) result ≡ row_of (rows_plain rows.now) number }
 {
     for row in rows {
@@ -54,7 +54,7 @@ pub fn row_values(rows: &[Row], number: i64) -> Option<&Vec<i64>>
 }
 
 /// A cell.
-pub fn cell(tables: &[TableRows], table: &str, row: i64, wanted: &str) -> Option<i64>
+pub(crate) fn cell(tables: &[TableRows], table: &str, row: i64, wanted: &str) -> Option<i64>
     ensures { result ≡ cell_of (tables_plain tables.now) table.now row wanted.now }
 {
     match row_values(rows(tables, table), row) {
@@ -64,14 +64,14 @@ pub fn cell(tables: &[TableRows], table: &str, row: i64, wanted: &str) -> Option
 }
 
 /// Whether there is a row of a number.
-pub fn has(tables: &[TableRows], table: &str, row: i64) -> bool
+pub(crate) fn has(tables: &[TableRows], table: &str, row: i64) -> bool
     ensures { result ≡ has_row (tables_plain tables.now) table.now row }
 {
     row_values(rows(tables, table), row).is_some()
 }
 
 /// One more than the greatest number of a row, or 0.
-pub fn limit(tables: &[TableRows], table: &str) -> i64
+pub(crate) fn limit(tables: &[TableRows], table: &str) -> i64
     ensures { result ≡ limit_of (tables_plain tables.now) table.now }
 {
     let mut above: i64 = 0;
@@ -94,7 +94,7 @@ fn amount(values: &[i64], place: usize) -> i64
 }
 
 /// The sum of a column over all rows, wrapped to 64 bits.
-pub fn sum(tables: &[TableRows], table: &str, wanted: &str) -> i64
+pub(crate) fn sum(tables: &[TableRows], table: &str, wanted: &str) -> i64
     ensures { result ≡ sum_of (tables_plain tables.now) table.now wanted.now }
 {
     let place = column(tables, table, wanted);

@@ -9,7 +9,7 @@ use monoid_laws::Kind;
 use std::alloc::{AllocError, Global};
 
 /// The procedure of a name.
-pub fn find_procedure<'p>(program: &'p Program, name: &str) -> Option<&'p Procedure>
+pub(crate) fn find_procedure<'p>(program: &'p Program, name: &str) -> Option<&'p Procedure>
     ensures { option_map (λ p. proc p.now) result ≡ procedure_of (tree program.now) name.now }
 {
     for d in &program.declarations {
@@ -23,7 +23,7 @@ pub fn find_procedure<'p>(program: &'p Program, name: &str) -> Option<&'p Proced
 }
 
 /// The number and the kind of a reducer.
-pub fn find_reducer(program: &Program, name: &str) -> Option<(usize, Kind)>
+pub(crate) fn find_reducer(program: &Program, name: &str) -> Option<(usize, Kind)>
     ensures { result ≡ option_map (λ p. (p.0, p.1.kind))
         (numbered 0 (reducers (tree program.now)) name.now) }
 {
@@ -40,7 +40,7 @@ pub fn find_reducer(program: &Program, name: &str) -> Option<(usize, Kind)>
 }
 
 /// Gives a name its value.
-pub fn put(env: &mut Vec<Option<i64>>, n: usize, v: i64)
+pub(crate) fn put(env: &mut Vec<Option<i64>>, n: usize, v: i64)
     ensures { env.new.items ≡ put_at env.old.items n v }
 {
     if n < env.len() {
@@ -49,7 +49,7 @@ pub fn put(env: &mut Vec<Option<i64>>, n: usize, v: i64)
 }
 
 /// Gives a name its value, where there is one.
-pub fn put_into(env: &mut Vec<Option<i64>>, x: Option<usize>, v: i64)
+pub(crate) fn put_into(env: &mut Vec<Option<i64>>, x: Option<usize>, v: i64)
     ensures { env.new.items ≡ put_into_at x env.old.items v }
 {
     match x {
@@ -59,7 +59,7 @@ pub fn put_into(env: &mut Vec<Option<i64>>, x: Option<usize>, v: i64)
 }
 
 /// The values of the names, with one more.
-pub fn with_name(
+pub(crate) fn with_name(
     alloc: Global,
     env: &[Option<i64>],
     x: usize,
@@ -73,7 +73,11 @@ pub fn with_name(
 }
 
 /// The values of an instance's names as it begins.
-pub fn fresh(alloc: Global, names: &[String], args: &[i64]) -> Result<Vec<Option<i64>>, AllocError>
+pub(crate) fn fresh(
+    alloc: Global,
+    names: &[String],
+    args: &[i64],
+) -> Result<Vec<Option<i64>>, AllocError>
     ensures { IfOk result (λ env. env.items ≡ fresh_env (map string_bytes names.now) args.now) }
 {
     let mut env = Vec::new(alloc);

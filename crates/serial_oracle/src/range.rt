@@ -13,7 +13,7 @@ pub struct Range {
 
 impl Range {
     /// The i-th number.
-    pub fn at(self, i: u64) -> i64
+    pub(crate) fn at(self, i: u64) -> i64
         requires { i < self.count }
         ensures { result ≡ self.low +ℤ pos i }
     {

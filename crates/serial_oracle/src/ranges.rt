@@ -25,7 +25,7 @@ fn range_between(low: i64, high: i64) -> Result<Range, FaultKind>
 }
 
 /// The range of a loop from its bounds, the first evaluated first.
-pub fn range_of(
+pub(crate) fn range_of(
     tables: &[TableRows],
     env: &[Option<i64>],
     low: &Expr,

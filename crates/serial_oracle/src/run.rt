@@ -145,7 +145,7 @@ fn answer_by<'p, 's>(
 
 /// Enters an instance at a statement, where so many levels are left.
 #[cycle(run)]
-pub fn enter<'p, 's>(
+pub(crate) fn enter<'p, 's>(
     scope: &Scope<'p, 's>,
     left: u32,
     here: &'p str,

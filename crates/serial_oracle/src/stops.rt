@@ -32,7 +32,7 @@ impl Trouble {
     ghost use Rattle.serial_oracle.specs.Results.{IsTrouble};
 
     /// The trouble at a statement.
-    pub fn at<'p>(self, procedure: &'p str, statement: u32) -> Stop<'p>
+    pub(crate) fn at<'p>(self, procedure: &'p str, statement: u32) -> Stop<'p>
         ensures { IsTrouble self procedure.now statement result }
     {
         match self {
@@ -49,7 +49,7 @@ impl Trouble {
 ghost use Rattle.serial_oracle.specs.Results.{IsFault};
 
 /// The fault of a kind at a statement.
-pub fn stopped(kind: FaultKind, procedure: &str, statement: u32) -> Stop<'_>
+pub(crate) fn stopped(kind: FaultKind, procedure: &str, statement: u32) -> Stop<'_>
     ensures { IsFault kind procedure.now statement result }
 {
     Stop::Fault(Fault {

@@ -66,7 +66,7 @@ fn is_list_kind(kind: Kind) -> bool
 }
 
 /// Whether two numbers name an element of the kind.
-pub fn is_pair_kind(kind: Kind) -> bool
+pub(crate) fn is_pair_kind(kind: Kind) -> bool
     ensures { result ≡ is_paired kind }
 {
     match kind {
@@ -285,7 +285,7 @@ fn apply(
 }
 
 /// What the reducers are worth after the changes.
-pub fn values_after(scope: &Scope, changes: &[Change]) -> Result<Vec<Val>, AllocError>
+pub(crate) fn values_after(scope: &Scope, changes: &[Change]) -> Result<Vec<Val>, AllocError>
     requires fit { AreFit (tree_in scope.now) (records_in scope.now) }
     ensures { IfOk result (λ v. map meaning v.items
         ≡ worths (tree_in scope.now) (records_in scope.now) changes.now) }
@@ -310,7 +310,7 @@ fn number_of_value(value: &Val) -> i64
 }
 
 /// The number that a reducer gives after the changes.
-pub fn read(scope: &Scope, name: &str, changes: &[Change]) -> Result<i64, AllocError>
+pub(crate) fn read(scope: &Scope, name: &str, changes: &[Change]) -> Result<i64, AllocError>
     requires fit { AreFit (tree_in scope.now) (records_in scope.now) }
     ensures { IfOk result (λ v. v ≡ reading (worths (tree_in scope.now) (records_in scope.now)
         changes.now) (numbered 0 (reducers (tree_in scope.now)) name.now)) }
@@ -352,7 +352,7 @@ fn note(
 }
 
 /// Evaluates the numbers of an update, and notes it.
-pub fn update_reducer(
+pub(crate) fn update_reducer(
     scope: &Scope,
     env: &[Option<i64>],
     name: &str,

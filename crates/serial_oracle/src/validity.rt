@@ -130,7 +130,7 @@ fn find_record<'p>(records: &'p [Record], name: &str, args: &[i64]) -> Option<Fo
 }
 
 /// The record that answers an instance at a depth, if there is one.
-pub fn valid_record<'p, 's>(
+pub(crate) fn valid_record<'p, 's>(
     scope: &Scope<'p, 's>,
     depth: u32,
     name: &str,

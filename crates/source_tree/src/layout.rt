@@ -155,7 +155,7 @@ fn action(
 
 /// A block's statements, numbered behind the last one; the blocks inside them go into the table.
 #[cycle(laying)]
-pub fn statements(
+pub(crate) fn statements(
     alloc: Global,
     pool: &mut Pool,
     last: &mut u32,

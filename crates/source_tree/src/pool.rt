@@ -52,7 +52,7 @@ impl Pool {
     ghost use Rattle.source_tree.specs.Lowering.{found_index, numbered};
 
     /// A pool of no names.
-    pub fn new(alloc: Global) -> Self
+    pub(crate) fn new(alloc: Global) -> Self
         ensures { result ≡ [] }
     {
         Pool {
@@ -74,7 +74,7 @@ impl Pool {
     }
 
     /// The number of a name, which is put last where it is new.
-    pub fn number_of(&mut self, alloc: Global, name: &str) -> Result<usize, AllocError>
+    pub(crate) fn number_of(&mut self, alloc: Global, name: &str) -> Result<usize, AllocError>
         ensures number { IfOk result (λ n. (self.new, n) ≡ numbered self.old name.now) }
         ensures same { OnErr result (self.new ≡ self.old) }
     {
@@ -87,7 +87,7 @@ impl Pool {
     }
 
     /// Puts the parameters in, a doubled one too.
-    pub fn with_parameters(alloc: Global, parameters: &[String]) -> Result<Self, AllocError>
+    pub(crate) fn with_parameters(alloc: Global, parameters: &[String]) -> Result<Self, AllocError>
         ensures { IfOk result (λ p. p ≡ texts parameters.now) }
     {
         let mut pool = Pool::new(alloc);
@@ -98,7 +98,7 @@ impl Pool {
     }
 
     /// The names.
-    pub fn into_names(self) -> Vec<String>
+    pub(crate) fn into_names(self) -> Vec<String>
         ensures { texts result.items ≡ self }
     {
         self.names

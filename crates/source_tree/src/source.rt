@@ -43,7 +43,7 @@ pub enum Statement {
 }
 
 /// The line of a statement.
-pub fn line_of(statement: &Statement) -> u32
+pub(crate) fn line_of(statement: &Statement) -> u32
     ensures { result ≡ line_of_stmt (stmt statement.now) }
 {
     match statement {

@@ -55,7 +55,7 @@ fn binary(alloc: Global, operator: Operator, left: Expr, right: Expr) -> Result<
 }
 
 /// An expression, with each new name put last in the pool.
-pub fn lower_expression(
+pub(crate) fn lower_expression(
     alloc: Global,
     pool: &mut Pool,
     expr: &source::Expr,
@@ -88,7 +88,7 @@ pub fn lower_expression(
 }
 
 /// Expressions, from left to right.
-pub fn lower_expressions(
+pub(crate) fn lower_expressions(
     alloc: Global,
     pool: &mut Pool,
     exprs: &[source::Expr],
@@ -104,7 +104,7 @@ pub fn lower_expressions(
 }
 
 /// The number of a name that may be there.
-pub fn number_of_bound(
+pub(crate) fn number_of_bound(
     alloc: Global,
     pool: &mut Pool,
     bound: &Option<String>,

@@ -91,7 +91,7 @@ fn note_missing(declarations: &[Declaration]) -> Option<Violation>
 
 /// The first violation of declarations, by the names of these tables.
 #[tactic(auto, using(single_rules::proofs::Noting::noted_append))]
-pub fn first_violation(
+pub(crate) fn first_violation(
     alloc: Global,
     declarations: &[Declaration],
     tables: &[TableNames],

@@ -14,7 +14,7 @@ use meaning::tree::Program;
 use std::alloc::{AllocError, Global};
 
 /// The checked program of one that breaks no rule, with these revision numbers of its procedures.
-pub fn linked(
+pub(crate) fn linked(
     alloc: Global,
     program: Program,
     tables: Vec<TableNames>,

@@ -7,7 +7,7 @@ use meaning::tree::{Action, Block, Statement};
 
 /// Whether the statement is one of these, where blocks nest at most so many levels.
 #[cycle(quiet)]
-pub fn is_quiet(blocks: &[Block], levels: usize, action: &Action) -> bool
+pub(crate) fn is_quiet(blocks: &[Block], levels: usize, action: &Action) -> bool
     ensures quiet { result ≡ is_quiet_deed (deed (block blocks.now levels) action.now) }
 {
     match action {

@@ -33,7 +33,11 @@ fn name_at(declarations: &[Declaration], declaration: usize) -> &str
 }
 
 /// The refusal of a program by a violation.
-pub fn refusal(alloc: Global, declarations: &[Declaration], violation: Violation) -> CheckError
+pub(crate) fn refusal(
+    alloc: Global,
+    declarations: &[Declaration],
+    violation: Violation,
+) -> CheckError
     ensures { IsRefusedBy (map decl declarations.now) (Some violation) result }
 {
     match String::from_str(alloc, name_at(declarations, violation.declaration)) {

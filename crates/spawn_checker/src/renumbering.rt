@@ -12,7 +12,7 @@ use single_rules::keeping::kept_revision;
 use std::alloc::{AllocError, Global};
 
 /// The revision numbers of declarations' procedures in the place of a program; none where a new one would not fit.
-pub fn next_revisions(
+pub(crate) fn next_revisions(
     alloc: Global,
     old: &Checked,
     declarations: &[Declaration],

@@ -15,7 +15,7 @@ pub struct Numbers {
 }
 
 /// Puts a procedure's name with its revision number behind those before it.
-pub fn put_revision(
+pub(crate) fn put_revision(
     alloc: Global,
     revisions: &mut Vec<(String, u64)>,
     name: &str,
@@ -30,7 +30,10 @@ pub fn put_revision(
 }
 
 /// The first revision numbers of a program's procedures: in their order from 0 on.
-pub fn first_revisions(alloc: Global, declarations: &[Declaration]) -> Result<Numbers, AllocError>
+pub(crate) fn first_revisions(
+    alloc: Global,
+    declarations: &[Declaration],
+) -> Result<Numbers, AllocError>
     ensures numbers { IfOk result (λ made. (numbers_in made.revisions.items, made.counter)
         ≡ revised nothing (map decl declarations.now) 0) }
 {

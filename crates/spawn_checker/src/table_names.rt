@@ -19,7 +19,7 @@ fn copies(alloc: Global, names: &[String]) -> Result<Vec<String>, AllocError>
 }
 
 /// The names of these tables and of their columns, in the tables' order.
-pub fn table_names(alloc: Global, tables: &Tables) -> Result<Vec<TableNames>, AllocError>
+pub(crate) fn table_names(alloc: Global, tables: &Tables) -> Result<Vec<TableNames>, AllocError>
     ensures { IfOk result (λ made. map columned made.items ≡ columned_of tables.now.tables) }
 {
     let mut made = Vec::new(alloc);

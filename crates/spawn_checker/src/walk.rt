@@ -119,7 +119,7 @@ fn note_branch(
 
 /// The first violation so far or that of a block of this depth; what is known after its statements.
 #[cycle(walk)]
-pub fn note_block(
+pub(crate) fn note_block(
     setting: &Setting,
     first: Option<Violation>,
     scope: &mut Scope,

@@ -192,7 +192,7 @@ fn same_statements(
 
 /// Whether two blocks are the same, lines aside, each by its number among the blocks of its procedure, which nest at most so many levels.
 #[cycle(same)]
-pub fn same_block(
+pub(crate) fn same_block(
     ours: &[Block],
     our_levels: usize,
     one: usize,

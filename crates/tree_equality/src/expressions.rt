@@ -12,7 +12,7 @@ fn same_operator(left: Operator, right: Operator) -> bool
 }
 
 /// Whether two expressions are the same.
-pub fn same_expression(left: &Expr, right: &Expr) -> bool
+pub(crate) fn same_expression(left: &Expr, right: &Expr) -> bool
     ensures { result ≡ same_term (term left.now) (term right.now) }
 {
     match left {
@@ -58,7 +58,7 @@ pub fn same_expression(left: &Expr, right: &Expr) -> bool
 }
 
 /// Whether two lists of expressions are the same.
-pub fn same_expressions(left: &[Expr], right: &[Expr]) -> bool
+pub(crate) fn same_expressions(left: &[Expr], right: &[Expr]) -> bool
     ensures { result ≡ same_terms (map term left.now) (map term right.now) }
 {
     if left.len() != right.len() {
