@@ -56,7 +56,7 @@ pub enum PutError {
 }
 
 /// Why a part of a table could not be read.
-#[derive(Debug, Drop)]
+#[derive(Drop)]
 pub enum Fault {
     NoMemory,
     Shape,

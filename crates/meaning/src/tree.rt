@@ -2,7 +2,7 @@
 use monoid_laws::Kind;
 
 /// An operator between two numbers.
-#[derive(Clone, Copy, Debug, PartialEq, Eq)]
+#[derive(Clone, Copy, PartialEq, Eq)]
 pub enum Operator {
     Add,
     Subtract,
@@ -31,7 +31,7 @@ pub enum Expr {
 }
 
 /// What entering a procedure does with the one that enters it.
-#[derive(Clone, Copy, Debug, PartialEq, Eq)]
+#[derive(Clone, Copy, PartialEq, Eq)]
 pub enum Way {
     Call,
     Spawn,

@@ -22,7 +22,7 @@ pub struct Table {
 }
 
 /// What a reducer's operation is.
-#[derive(Clone, Copy, Debug, PartialEq, Eq)]
+#[derive(Clone, Copy, PartialEq, Eq)]
 pub enum Kind {
     Add,
     Mul,
@@ -64,7 +64,7 @@ pub enum InjectError {
 }
 
 /// What a look at a table finds: its operation is a monoid, or the first failure of a law.
-#[derive(Clone, Copy, Debug, PartialEq, Eq)]
+#[derive(Clone, Copy, PartialEq, Eq)]
 pub enum TableAnswer {
     Monoid,
     NotIdentity(u8),

@@ -16,14 +16,14 @@ use linked_program::code::Expression;
 use meaning::tree::Operator;
 
 /// A row that isn't there: the number of its table, and its own.
-#[derive(Clone, Copy, Debug, PartialEq, Eq)]
+#[derive(Clone, Copy, PartialEq, Eq)]
 pub struct Missed {
     pub table: usize,
     pub row: i64,
 }
 
 /// Why a walk over a program ends before the program does.
-#[derive(Clone, Copy, Debug)]
+#[derive(Clone, Copy)]
 pub enum Halt {
     /// A row isn't there.
     Missed(Missed),

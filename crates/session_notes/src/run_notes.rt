@@ -19,7 +19,7 @@ use std::marker::Model;
 use trace_report::trace::{RunCounts, folds, history_text, stats_text, steals};
 
 /// Why a run couldn't be noted: memory was refused, or a write of its history or of its counts failed.
-#[derive(Clone, Copy, Debug)]
+#[derive(Clone, Copy)]
 pub enum NotesError {
     NoMemory,
     Trace,

@@ -6,7 +6,7 @@ ghost use Rattle.strand_list.specs.Laying.{laying_step, state_as};
 use numbered_runs::step::{BookStep, Place, State};
 
 /// As what a strand is laid down.
-#[derive(Clone, Copy, Debug, PartialEq, Eq)]
+#[derive(Clone, Copy, PartialEq, Eq)]
 pub enum LaidState {
     Ended,
     Stalled,

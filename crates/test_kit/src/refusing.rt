@@ -14,7 +14,7 @@ use std::sync::atomic::{AtomicUsize, Ordering};
 use view_pool::View;
 
 /// What a list refuses.
-#[derive(Clone, Copy, Debug, PartialEq, Eq)]
+#[derive(Clone, Copy, PartialEq, Eq)]
 pub enum Refuses {
     Nothing,
     /// The first update.

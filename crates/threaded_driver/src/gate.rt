@@ -1,7 +1,7 @@
 //! Who watches the workers.
 
 /// Where a worker has come.
-#[derive(Clone, Copy, Debug, PartialEq, Eq)]
+#[derive(Clone, Copy, PartialEq, Eq)]
 pub enum Point {
     Pushed,
     Popped,

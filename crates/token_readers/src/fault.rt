@@ -30,7 +30,7 @@ impl TextError {
 }
 
 /// Why tokens could not be read.
-#[derive(Debug, Drop)]
+#[derive(Drop)]
 pub enum ParseError {
     Memory,
     /// The token that can't follow, as the number of tokens from it on.

@@ -4,7 +4,7 @@ ghost use Rattle.std.specs.Prelude.{◌≡◌};
 ghost use Rattle.token_scanner.specs.Marks.{same_mark};
 
 /// A mark or a keyword.
-#[derive(Clone, Copy, Debug, PartialEq, Eq)]
+#[derive(Clone, Copy, PartialEq, Eq)]
 pub enum Mark {
     OpenBrace,
     CloseBrace,
@@ -49,7 +49,7 @@ pub enum Mark {
 }
 
 /// A token of a text.
-#[derive(Clone, Copy, Debug)]
+#[derive(Clone, Copy)]
 pub enum Token<'a> {
     Name(&'a str),
     Number(i64),
@@ -59,7 +59,7 @@ pub enum Token<'a> {
 }
 
 /// A token and its line.
-#[derive(Clone, Copy, Debug)]
+#[derive(Clone, Copy)]
 pub struct Placed<'a> {
     pub token: Token<'a>,
     pub line: u32,

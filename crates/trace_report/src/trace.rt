@@ -12,7 +12,7 @@ use std::alloc::{AllocError, Global};
 use std::fmt::Write;
 
 /// What is counted of a run that came to a result.
-#[derive(Clone, Copy, Debug)]
+#[derive(Clone, Copy)]
 pub struct RunCounts {
     /// Instances with a record of their own that were executed.
     pub executed: usize,

@@ -22,7 +22,7 @@ use strand_moves::task::Task;
 use view_pool::{Kit, Pool, View};
 
 /// What a worker does with the strand that it holds.
-#[derive(Clone, Copy, Debug, PartialEq, Eq)]
+#[derive(Clone, Copy, PartialEq, Eq)]
 pub(crate) enum Move {
     Work,
     Push,
