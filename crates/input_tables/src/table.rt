@@ -93,21 +93,6 @@ impl Table {
         self.columns.len()
     }
 
-    /// The number of the column of a name.
-    pub(crate) fn column(&self, name: &str) -> Option<usize>
-        ensures found { IfSome result (λ number. number ≡ index_of self.now.columns name.now) }
-        ensures within { IfSome result (λ number. number < length self.now.columns) }
-        ensures absent { IfNone result (index_of self.now.columns name.now
-            ≡ length self.now.columns) }
-    {
-        let number = index_of(&self.columns, name);
-        if number < self.columns.len() {
-            Some(number)
-        } else {
-            None
-        }
-    }
-
     /// The values of the row of this number, where no row before it is missing; there may be such a row where none is found.
     #[inline(always)]
     pub(crate) fn row_at_once(&self, row: i64) -> Option<&[i64]>

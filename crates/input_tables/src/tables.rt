@@ -187,21 +187,6 @@ impl Tables {
         }
     }
 
-    /// The number of the column of a name in the table of a number.
-    pub fn column(&self, table: usize, name: &str) -> Option<usize>
-        ensures found { IfSome result (λ number. number
-            ≡ index_of (columns_at self.now.tables table) name.now) }
-        ensures within { IfSome result (λ number. number < length
-            (columns_at self.now.tables table)) }
-        ensures absent { IfNone result (index_of (columns_at self.now.tables table) name.now
-            ≡ length (columns_at self.now.tables table)) }
-    {
-        match self.at(table) {
-            Some(table) => table.column(name),
-            None => None,
-        }
-    }
-
     /// Lends the values of a row, by the number of the table, where no row before it is missing: it takes a few instructions.
     /// Where it finds none there may be such a row.
     #[inline(always)]
