@@ -110,10 +110,6 @@ one_by : (b : Bool) (n : ℕ) → n ≤ cond b (suc n) n
 one_by true n = omega arith
 one_by false n = omega arith
 
-by_more : (b : Bool) (m n : ℕ) → m ≤ n → cond b (suc m) m ≤ cond b (suc n) n
-by_more true m n le = omega (arith, le)
-by_more false m n le = le
-
 -- one name more
 counts_one : (f x : Name) (xs : List Name) → count f xs ≤ count f (x ∷ xs)
 counts_one f x xs = one_by (bytes_eq x f) (count f xs)

@@ -1,5 +1,5 @@
 -- The answer of a strand is that of what it stands for.
-use Rattle.std.proofs.Common.{◌≡◌, ℤ, List, [], ◌∷◌, Some, None, refl, sym, ◌∙◌, ap, subst}
+use Rattle.std.proofs.Common.{◌≡◌, ℤ, List, [], ◌∷◌, refl, sym, ◌∙◌, ap, subst}
 use Rattle.monoid_laws.specs.Worth.{Worth}
 use Rattle.meaning.specs.Outcome.{Place, Fault as NamedFault}
 use Rattle.meaning.specs.SmallStep.{entering, running, spawning, returning, leaving, broken, Parent}
@@ -16,7 +16,6 @@ use Rattle.positions.specs.Tallies.{PlainTally}
 use Rattle.positions.specs.Strands.{PlainStrand}
 use Rattle.positions.specs.declared.start.Start.{Start}
 use Rattle.positions.specs.Stands.{AreNotes, IsTally, AreParents, StandsAt, named_fault}
-use Rattle.strand_moves.specs.Ends.{left_by}
 use Rattle.positions.specs.declared.answer.RunAnswer.{RunAnswer}
 use Rattle.positions.specs.declared.answer.RunAnswer.TheVariants as answer
 use Rattle.frames.specs.Answers.{Ending, over, stopped, underway, ending_at, ending_of, IsAnswer, HasLeft, Answers, IsAnswerOf}
@@ -79,23 +78,3 @@ module _ (setting : Setting) where
   answer_is s a is x t h = answers_by (ending_of s) a x t (lowest s.layer s.lower).worths s.tally (ends_at s x s.phase s.below s.path refl h.now) (lowest_worths s.start s.layer s.lower x.layers h.layers) h.tally is
 
 -- ---- by whether main has left
-
-pub over_is : (ph : Phase) (below : List PlainActivation) (path : Place) (v : ℤ) → Some v ≡ left_by ph below path → over v ≡ ending_at ph below path
-over_is (phase.Leaving w) [] [] v e = let q : v ≡ w = cc in ap over q
-over_is (phase.Leaving w) [] (p ∷ path) v e = absurd cc
-over_is (phase.Leaving w) (b ∷ below) path v e = absurd cc
-over_is phase.Entering below path v e = absurd cc
-over_is phase.Running below path v e = absurd cc
-over_is phase.AtSpawn below path v e = absurd cc
-over_is (phase.Returning w) below path v e = absurd cc
-over_is (phase.Broken f) below path v e = absurd cc
-
-pub underway_is : (ph : Phase) (below : List PlainActivation) (path : Place) → None ≡ left_by ph below path → ((f : Fault) → ph ≡ phase.Broken f → ⊥) → underway ≡ ending_at ph below path
-underway_is (phase.Leaving w) [] [] e n = absurd cc
-underway_is (phase.Leaving w) [] (p ∷ path) e n = refl
-underway_is (phase.Leaving w) (b ∷ below) path e n = refl
-underway_is phase.Entering below path e n = refl
-underway_is phase.Running below path e n = refl
-underway_is phase.AtSpawn below path e n = refl
-underway_is (phase.Returning w) below path e n = refl
-underway_is (phase.Broken f) below path e n = absurd (n f refl)

@@ -1,5 +1,5 @@
 -- What a strand keeps: one layer more than there are open instances, the same kinds in all layers, and records of these kinds.
-use Rattle.std.proofs.Common.{◌≡◌, ℕ, ℤ, Bool, List, [], ◌∷◌, length, All, Option, Some, None, Result, Ok, Err, OnOk, OnErr, refl, sym, ap, ◌∙◌, subst, arith}
+use Rattle.std.proofs.Common.{◌≡◌, ℤ, Bool, List, [], ◌∷◌, length, All, Result, Ok, Err, OnOk, OnErr, refl, sym, ap, ◌∙◌, subst, arith}
 use Rattle.std.proofs.lemmas.List.Elements.{All-cons, All-tail, All-nil}
 use Rattle.monoid_laws.specs.declared.Kind.{Kind}
 use Rattle.linked_program.specs.declared.code.Code.{Code}
@@ -8,15 +8,14 @@ use Rattle.record_theory.specs.Named.{HasValuesIfAnswers, HaveValues}
 use Rattle.positions.specs.declared.phase.Phase.{Phase}
 use Rattle.positions.specs.declared.phase.Phase.TheVariants.{Entering, Running, AtSpawn, Returning, Leaving, Broken}
 use Rattle.positions.specs.Setting.{Setting}
-use Rattle.positions.specs.Activations.{PlainActivation}
 use Rattle.positions.specs.Layers.{PlainLayer}
 use Rattle.positions.specs.Tallies.{PlainTally, no_tally}
 use Rattle.positions.specs.Strands.{PlainStrand, PlainTask, IsLayered, IsLayeredAt}
 use Rattle.positions.specs.Advance.{advanced}
-use Rattle.positions.specs.Moves.{stolen, resumed, resumed_by, returned_at, joined_at, joined_after, joined_ended, joined, lowest_alone}
+use Rattle.positions.specs.Moves.{stolen, joined_at, joined_after, joined_ended, joined}
 use Rattle.position_theory.proofs.Layered.{layers_kept}
 use Rattle.strand_moves.specs.Bare.{IsBare}
-use Rattle.strand_moves.specs.Joins.{IsDone, HasFault, with_worths}
+use Rattle.strand_moves.specs.Joins.{IsDone, with_worths}
 use Rattle.small_steps.specs.Steps.{IsWhole, IsValued, revalued, revalued_first}
 use Rattle.small_steps.proofs.Keeping.{kinds_kept}
 use Rattle.small_steps.proofs.Refusals.{top_valued}
@@ -40,14 +39,6 @@ kinds_as ks cs lower e h = subst (λ zs. All (λ (l : PlainLayer). l.kinds ≡ z
 
 made_as : (ks cs : List Kind) (made : List PlainRecord) → ks ≡ cs → HaveValues ks made → HaveValues cs made
 made_as ks cs made e h = subst (λ zs. HaveValues zs made) e h
-
--- another phase of the same layers
-pub whole_as : (s t : PlainStrand) → Counts s → t.layer.kinds ≡ s.layer.kinds → t.lower ≡ s.lower → t.tally ≡ s.tally → IsWhole s → IsWhole t
-whole_as s t n e f k h = record {
-  layered = layered_at t.phase t (ap (λ (x : PlainTally). length x.opened) k ∙ n ∙ sym (ap length f));
-  kinds = subst (λ ls. All (λ (l : PlainLayer). l.kinds ≡ t.layer.kinds) ls) (sym f) (kinds_as s.layer.kinds t.layer.kinds s.lower (sym e) h.kinds);
-  made = made_as s.layer.kinds t.layer.kinds t.tally.made (sym e) (subst (λ (x : PlainTally). HaveValues s.layer.kinds x.made) (sym k) h.made);
-}
 
 -- ---- steps
 
@@ -88,23 +79,6 @@ valued_whole s t is h =
 
 -- ---- moves
 
-resumed_counts : (ph : Phase) (below : List PlainActivation) (path : List ℕ) (s : PlainStrand) (v : ℤ) → returned_at ph below path ≡ Some v → IsLayeredAt ph s → Counts s
-resumed_counts (Leaving w) [] (k ∷ n) s v e h = h
-resumed_counts (Leaving w) [] [] s v e h = absurd cc
-resumed_counts (Leaving w) (a ∷ below) path s v e h = absurd cc
-resumed_counts Entering below path s v e h = absurd cc
-resumed_counts Running below path s v e h = absurd cc
-resumed_counts AtSpawn below path s v e h = absurd cc
-resumed_counts (Returning w) below path s v e h = absurd cc
-resumed_counts (Broken f) below path s v e h = absurd cc
-
-resumed_by_whole : (r : Option ℤ) (task : PlainTask) (s : PlainStrand) → ((v : ℤ) → r ≡ Some v → Counts s) → IsWhole s → IsWhole (resumed_by r task s)
-resumed_by_whole None task s n h = h
-resumed_by_whole (Some v) task s n h = whole_as s (resumed_by (Some v) task s) (n v refl) refl refl refl h
-
-pub resumed_whole : (task : PlainTask) (s : PlainStrand) → IsWhole s → IsWhole (resumed task s)
-resumed_whole task s h = resumed_by_whole (returned_at s.phase s.below s.path) task s (λ v e. resumed_counts s.phase s.below s.path s v e h.layered) h
-
 -- ---- joins
 
 joined_ended_whole : (l r : PlainStrand) (v : ℤ) → Counts l → IsWhole l → HaveValues l.layer.kinds (joined_ended l v r).tally.made → IsWhole (joined_ended l v r)
@@ -129,30 +103,6 @@ joined_at_whole (Returning v) l r d n h made = absurd d
 pub joined_whole : (l r new : PlainStrand) → IsDone l.phase → new ≡ joined l r → HaveValues l.layer.kinds new.tally.made → IsWhole l → IsWhole new
 joined_whole l r new d is made h =
     subst IsWhole (sym is) (joined_at_whole l.phase l r d h.layered h (subst (λ (z : PlainStrand). HaveValues l.layer.kinds z.tally.made) is made))
-
--- a faulted strand with its lowest layer alone
-alone_layered : (ph : Phase) (s : PlainStrand) → HasFault ph → IsLayeredAt ph s
-alone_layered (Broken f) s h = tt
-alone_layered Entering s h = absurd h
-alone_layered Running s h = absurd h
-alone_layered AtSpawn s h = absurd h
-alone_layered (Returning v) s h = absurd h
-alone_layered (Leaving v) s h = absurd h
-
-pub alone_whole : (s new : PlainStrand) → HasFault s.phase → new ≡ lowest_alone s → new.layer.kinds ≡ s.layer.kinds → IsWhole s → IsWhole new
-alone_whole s new f is same h =
-    let u = lowest_alone s in
-    let e : u.layer.kinds ≡ s.layer.kinds = sym (ap (λ (z : PlainStrand). z.layer.kinds) is) ∙ same in
-    let whole : IsWhole u = record { layered = alone_layered s.phase u f; kinds = All-nil (λ (l : PlainLayer). l.kinds ≡ u.layer.kinds); made = made_as s.layer.kinds u.layer.kinds s.tally.made (sym e) h.made } in
-    subst IsWhole (sym is) whole
-
--- a strand that begins has one layer
-pub begun_whole : (s : PlainStrand) → s.lower ≡ [] → s.tally.opened ≡ [] → s.tally.made ≡ [] → IsWhole s
-begun_whole s e f k = record {
-  layered = layered_at s.phase s (ap length f ∙ sym (ap length e));
-  kinds = subst (λ ls. All (λ (l : PlainLayer). l.kinds ≡ s.layer.kinds) ls) (sym e) (All-nil (λ (l : PlainLayer). l.kinds ≡ s.layer.kinds));
-  made = subst (λ rs. HaveValues s.layer.kinds rs) (sym k) (All-nil (HasValuesIfAnswers s.layer.kinds));
-}
 
 pub worths_whole : (s t : PlainStrand) → t ≡ with_worths t.layer.worths s → IsWhole s → IsWhole t
 worths_whole s t e h = valued_whole s t (top_valued s t e) h

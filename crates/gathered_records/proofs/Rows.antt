@@ -29,9 +29,6 @@ at_more rs (p ∷ ps) qs = ap (got_before (slice_get rs p)) (at_more rs ps qs) �
     before_more None xs ys = refl
     before_more (Some x) xs ys = refl
 
-pub at_one : (rs : List PlainRecord) (p : ℕ) (r : PlainRecord) → slice_get rs p ≡ Some r → at_places rs (p ∷ []) ≡ r ∷ []
-at_one rs p r e = ap (λ o. got_before o []) e
-
 pub got_has : (P : PlainRecord → Type 0) (rs : List PlainRecord) (p : ℕ) (r : PlainRecord) → All P rs → slice_get rs p ≡ Some r → P r
 got_has P [] p r a e = absurd cc
 got_has P (x ∷ xs) zero r a e = subst P (let s : x ≡ r = cc (e) in s) (All-head P x xs a)

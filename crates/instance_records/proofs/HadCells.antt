@@ -34,9 +34,6 @@ cell_there (n ∷ ns) t row c v e =
 
 -- ---- among more notes
 
-on_left : (a b : Bool) → a ≡ true → a || b ≡ true
-on_left a b e = ap (λ x. x || b) e
-
 pub on_right : (a b : Bool) → b ≡ true → a || b ≡ true
 on_right true b e = refl
 on_right false b e = e

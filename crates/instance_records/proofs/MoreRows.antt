@@ -1,5 +1,5 @@
 -- Lines of cells: one cell more, one row more, and the rows at the end; rows that are joined, and those of more notes.
-use Rattle.std.proofs.Common.{◌≡◌, ℕ, zero, suc, length, drop, get_or, ◌+◌, ◌≤◌, ◌<◌, ◌≤ℤ◌, ◌<ℤ◌, ℤ, pos, negsuc, Bool, true, false, List, [], ◌∷◌, ◌++◌, map, refl, sym, ap, ◌∙◌, subst, arith, Option, Some, None}
+use Rattle.std.proofs.Common.{◌≡◌, ℕ, zero, suc, length, drop, get_or, ◌+◌, ◌≤◌, ◌<◌, ◌≤ℤ◌, ◌<ℤ◌, ℤ, pos, negsuc, Bool, true, false, List, [], ◌∷◌, ◌++◌, map, refl, sym, ap, ◌∙◌, subst, arith, Option, Some}
 use Rattle.std.proofs.lemmas.Int.{ints, clamps}
 use Rattle.std.specs.Prelude.{Box, ◌||◌}
 use Rattle.std.proofs.lemmas.List.{drop_more}
@@ -21,7 +21,7 @@ use Rattle.instance_records.specs.Readings.{all_of, below_told, node_notes, shar
 use Rattle.instance_records.specs.ShortLists.{items_in}
 use Rattle.instance_records.specs.Spans.{span_of, put_span, put_spans}
 use Rattle.instance_records.proofs.HadCells.{one_cell, first_cell, Rows, no_rows, one_row, both_rows, cell_before, cell_behind, narrower, on_right}
-use Rattle.instance_records.proofs.NodeNotes.{notes_out, below_roll, alone, append_nil}
+use Rattle.instance_records.proofs.NodeNotes.{notes_out, below_roll}
 use Rattle.instance_records.proofs.Runs.{made, put_row}
 
 -- ---- rows
@@ -77,10 +77,6 @@ module _ (notes : List Note) (l : Lines) (h : AreLines notes l) where
     next = λ _. first_of t row c e g there;
   }
 
-  -- nothing more
-  pub no_more : AreLines notes (record l { next = 512 })
-  no_more = record { full = h.full; few = h.few; next = λ few. absurd (omega (arith, few)) }
-
   pub one_whole : l.full.until ≤ l.full.low → l.next ≤ 256 → IsFull notes (record l.full { until = l.full.until + 1; end = l.next })
   one_whole one few = one_row notes l.full.low l.full.until l.full.table l.full.first l.next (no_rows notes l.full.low l.full.until l.full.table l.full.first l.next one) (h.next few)
 
@@ -88,15 +84,6 @@ module _ (notes : List Note) (l : Lines) (h : AreLines notes l) where
   last_whole few whole =
       one_row notes l.full.low l.full.until l.full.table l.full.first l.full.end h.full
       (subst (λ (x : ℕ). HasCells notes l.full.table (pos l.full.until) l.full.first x) whole (h.next few))
-
--- the first cell of all
-pub first_row : (notes : List Note) (t row c : ℕ) → has_cell notes t (pos row) c ≡ true
-    → AreLines notes (record { full = record { low = row; until = row; table = t; first = c; end = 0 }; next = c + 1 })
-first_row notes t row c there = record {
-  full = no_rows notes row row t c 0 (omega arith);
-  few = omega arith;
-  next = λ _. first_cell notes t (pos row) c there;
-}
 
 -- ---- a row that is in a span
 
@@ -133,10 +120,6 @@ pub below_is_full : (b : Below) (x : Below-F Below Node) (notes : List Note) →
 below_is_full b x notes e f h =
     subst (λ (y : Below). IsFull (below_told y).0 (out-Below y).full) (sym e)
     (subst (λ (ns : List Note). IsFull ns (out-Below (roll-Below x)).full) (sym (below_roll x ∙ f)) (subst (λ (y : Below-F Below Node). IsFull notes y.full) (sym (out-roll-Below x)) h))
-
--- a node by itself has its own readings alone
-pub alone_full : (n : Node) (f : Full) → (out-Node n).below ≡ None → IsFull (map note_of (items_in (out-Node n).own)) f → IsFull (node_notes n) f
-alone_full n f e h = subst (λ ns. IsFull ns f) (sym (alone n e ∙ append_nil (map note_of (items_in (out-Node n).own)))) h
 
 -- ---- a row that is one of them
 

@@ -136,19 +136,3 @@ pub behind_is : (q : Note → Bool) (n : ℕ) (parts : List (Arc Node Global)) �
 behind_is q n parts e = ap (λ ps. every q (flat_map shared_notes ps)) (sym (take_rest parts n)) ∙ e
 
 -- ---- readings one by one
-
-same_next : (k : ℕ) (xs ys : List Reading) (x y : Reading) → k < length xs → k < length ys → x ≡ get_or xs k x → y ≡ get_or ys k y → note_of x ≡ note_of y
-    → map note_of (take k xs) ≡ map note_of (take k ys) → map note_of (take (suc k) xs) ≡ map note_of (take (suc k) ys)
-same_next k [] ys x y l m e f n h = absurd (omega (arith, l))
-same_next k (a ∷ xs) [] x y l m e f n h = absurd (omega (arith, m))
-same_next zero (a ∷ xs) (b ∷ ys) x y l m e f n h = ap (λ z. z ∷ []) (ap note_of (sym e) ∙ n ∙ ap note_of f)
-same_next (suc k) (a ∷ xs) (b ∷ ys) x y l m e f n h =
-    let first : note_of a ≡ note_of b = cc in
-    let rest : map note_of (take k xs) ≡ map note_of (take k ys) = cc in
-    ap (λ z. z ∷ map note_of (take (suc k) xs)) first ∙ ap (λ zs. note_of b ∷ zs) (same_next k xs ys x y (omega (arith, l)) (omega (arith, m)) e f n rest)
-
-pub one_more_same : (k : ℕ) (xs ys : List Reading) (x y : Reading) → k < length xs → k < length ys → x ≡ get_or xs k x → y ≡ get_or ys k y → same_note (note_of x) (note_of y) ≡ true
-    → map note_of (take k xs) ≡ map note_of (take k ys) → map note_of (take (k + 1) xs) ≡ map note_of (take (k + 1) ys)
-one_more_same k xs ys x y l m e f n h =
-    let next : suc k ≡ k + 1 = omega arith in
-    subst (λ (i : ℕ). map note_of (take i xs) ≡ map note_of (take i ys)) next (same_next k xs ys x y l m e f (note_is (note_of x) (note_of y) n) h)

@@ -1,5 +1,5 @@
 -- The notes of a node and of all below it, one level at a time.
-use Rattle.std.proofs.Common.{◌≡◌, ℤ, Bool, true, false, List, [], ◌∷◌, map, ◌++◌, refl, sym, ap, ◌∙◌, append_assoc, subst, Option, Some, None, Result, Ok, Err, OnOk}
+use Rattle.std.proofs.Common.{◌≡◌, ℤ, Bool, true, List, [], ◌∷◌, map, ◌++◌, refl, sym, ap, ◌∙◌, append_assoc, subst, Option, Some, None, Result, Ok, Err, OnOk}
 use Rattle.std.specs.Prelude.{◌&&◌, Box}
 use Rattle.std.specs.declared.alloc.Global.{Global}
 use Rattle.std.specs.declared.sync.Arc.{Arc}
@@ -32,12 +32,6 @@ roll_told own (Some b) = fold-roll-Node Told Told below_step node_step (record {
 
 out_told : (n : Node) → node_told n ≡ (map note_of (items_in (out-Node n).own) ++ held_notes (out-Node n).below, is_covered_below (out-Node n).below)
 out_told n = ap node_told (sym (roll-out-Node n)) ∙ roll_told (out-Node n).own (out-Node n).below
-
-pub notes_roll : (own : ShortList Reading) (below : Option (Box Below Global)) → node_notes (roll-Node (record { own = own; below = below })) ≡ map note_of (items_in own) ++ held_notes below
-notes_roll own below = ap (λ t. t.0) (roll_told own below)
-
-pub covered_roll : (own : ShortList Reading) (below : Option (Box Below Global)) → is_covered (roll-Node (record { own = own; below = below })) ≡ is_covered_below below
-covered_roll own below = ap (λ t. t.1) (roll_told own below)
 
 pub notes_out : (n : Node) → node_notes n ≡ map note_of (items_in (out-Node n).own) ++ held_notes (out-Node n).below
 notes_out n = ap (λ t. t.0) (out_told n)
@@ -116,23 +110,6 @@ module _ (n : Node) where
       ap (every p) (with_parts b e)
       ∙ every_append p (map note_of (items_in (out-Node n).own)) (flat_map shared_notes (items_in (out-Below b.value).parts))
       ∙ ap (λ c. c && every p (flat_map shared_notes (items_in (out-Below b.value).parts))) h
-
-  pub every_not_own : (p : Note → Bool) → every p (map note_of (items_in (out-Node n).own)) ≡ false → every p (node_notes n) ≡ false
-  every_not_own p h =
-      ap (every p) (notes_out n)
-      ∙ every_append p (map note_of (items_in (out-Node n).own)) (held_notes (out-Node n).below)
-      ∙ ap (λ c. c && every p (held_notes (out-Node n).below)) h
-
-  pub every_own : (p : Note → Bool) → every p (node_notes n) ≡ true → every p (map note_of (items_in (out-Node n).own)) ≡ true
-  every_own p h =
-      left_is (every p (map note_of (items_in (out-Node n).own))) (every p (held_notes (out-Node n).below))
-      (sym (every_append p (map note_of (items_in (out-Node n).own)) (held_notes (out-Node n).below)) ∙ sym (ap (every p) (notes_out n)) ∙ h)
-
-  pub every_part : (p : Note → Bool) (b : Box Below Global) → (out-Node n).below ≡ Some b → every p (node_notes n) ≡ true
-      → every p (flat_map shared_notes (items_in (out-Below b.value).parts)) ≡ true
-  every_part p b e h =
-      right_is (every p (map note_of (items_in (out-Node n).own))) (every p (flat_map shared_notes (items_in (out-Below b.value).parts)))
-      (sym (every_append p (map note_of (items_in (out-Node n).own)) (flat_map shared_notes (items_in (out-Below b.value).parts))) ∙ sym (ap (every p) (with_parts b e)) ∙ h)
 
   -- ---- its notes are covered by spans that it is joined with
 

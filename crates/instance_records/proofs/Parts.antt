@@ -49,9 +49,3 @@ read_below n note b at e =
     ap (λ ns. is_read ns note) (with_parts n b at)
     ∙ read_append (map note_of (items_in (out-Node n).own)) (flat_map shared_notes (items_in (out-Below b.value).parts)) note
     ∙ surely_behind (is_read (map note_of (items_in (out-Node n).own)) note) (is_read (flat_map shared_notes (items_in (out-Below b.value).parts)) note) e
-
--- what all that was found of a list is in, and that in another
-pub read_further : {A : Type 0} (o : Option A) (f : A → List Note) (xs ys : List Note) → ((note : Note) → is_read xs note ≡ true → is_read ys note ≡ true) → IfSome o (λ x. (note : Note) → is_read (f x) note ≡ true → is_read xs note ≡ true)
-    → IfSome o (λ x. (note : Note) → is_read (f x) note ≡ true → is_read ys note ≡ true)
-read_further None f xs ys g h = h
-read_further (Some x) f xs ys g h = λ note e. g note (h note e)

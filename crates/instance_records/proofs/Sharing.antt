@@ -50,8 +50,5 @@ record_send = let s = readings_send in search (sendable, crosses, lists.the_fiel
 pub record_sync : IsSync (Record.the_field).row
 record_sync = let y = readings_sync in search (sendable, crosses, lists.the_field_sync, gifts.the_sync, called.the_field_sync, entries.the_field_sync) depth 20
 
-pub hull_send : IsSend (Hull.the_field).row
-hull_send = search (sendable, crosses, few.the_field_send) depth 20
-
 pub hull_sync : IsSync (Hull.the_field).row
 hull_sync = search (sendable, crosses, few.the_field_sync) depth 20

@@ -1,29 +1,21 @@
 -- Why edits of tables and of the program are refused, as a session answers them.
-use Rattle.std.proofs.Common.{◌≡◌, ℕ, ℤ, List, Result, Err, subst}
+use Rattle.std.proofs.Common.{◌≡◌, ℤ, List, Result, Err, subst}
 use Rattle.meaning.specs.Tree.{Name}
 use Rattle.meaning.specs.TreeView.{Lined, lines}
 use Rattle.meaning.specs.Records.{Revised}
-use Rattle.meaning.specs.Edits.{Standing, EditRefusal, Put, Define, after_put, after_delete}
+use Rattle.meaning.specs.Edits.{Standing, EditRefusal, Put, after_put, after_delete}
 use Rattle.linked_program.specs.Checked.{revised_of}
 use Rattle.input_tables.specs.Edited.{beside, row_refusal, IsPutCause}
 use Rattle.table_parts.specs.declared.refusals.RowError.{RowError}
 use Rattle.input_tables.specs.declared.refusal.PutError.{PutError}
 use Rattle.input_tables.specs.declared.refusal.PutError.TheVariants as put
-use Rattle.checked_defines.specs.Causes.{IsDefineCause}
-use Rattle.checked_defines.specs.declared.refusal.DefineError.{DefineError}
 use Rattle.checked_defines.specs.declared.refusal.DefineError.TheVariants as define
 use Rattle.kept_session.specs.Sessions.{PlainSession, standing_of}
-use Rattle.kept_session.specs.Applied.{IsApplyCause, of_put, of_define}
+use Rattle.kept_session.specs.Applied.{IsApplyCause, of_put}
 
 put_cause : (t : Name) (row : ℤ) (vs : List ℤ) (given : Result Standing EditRefusal) (error : PutError) → IsPutCause given error → IsApplyCause (Put t row vs) given (of_put error)
 put_cause t row vs given put.NoMemory h = h
 put_cause t row vs given (put.Refused error) h = h
-
-pub define_cause : (text : List ℕ) (given : Result Standing EditRefusal) (error : DefineError) → IsDefineCause given error → IsApplyCause (Define text) given (of_define error)
-define_cause text given define.NoMemory h = h
-define_cause text given (define.Text line) h = h
-define_cause text given (define.Check rule name line) h = h
-define_cause text given define.Exhausted h = h
 
 -- by what a call says of every program beside the tables
 pub put_refused : (s : PlainSession) (t : Name) (m row : ℤ) (vs : List ℤ) (error : PutError) → m ≡ row

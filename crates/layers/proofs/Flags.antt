@@ -67,17 +67,6 @@ next_lowered (suc i) (x ∷ xs) l = ap (λ zs. false ∷ zs) (next_lowered i xs 
 pub lower_next : (i : ℕ) (xs : List Bool) → i < length xs → slice_set (lowered i xs) i false ≡ lowered (i + 1) xs
 lower_next i xs l = next_lowered i xs l ∙ ap (λ k. lowered k xs) (sym (add-one i))
 
-pub length_lowered : (i : ℕ) (xs : List Bool) → length (lowered i xs) ≡ length xs
-length_lowered zero xs = refl
-length_lowered (suc i) [] = refl
-length_lowered (suc i) (x ∷ xs) = ap suc (length_lowered i xs)
-
 pub all_lowered : (xs : List Bool) → lowered (length xs) xs ≡ replicate (length xs) false
 all_lowered [] = refl
 all_lowered (x ∷ xs) = ap (λ zs. false ∷ zs) (all_lowered xs)
-
--- a flag that is down stays as it is
-pub lowered_already : (i : ℕ) (xs : List Bool) → i < length xs → get_or xs i false ≡ false → slice_set xs i false ≡ xs
-lowered_already i [] l e = absurd (omega arith)
-lowered_already zero (x ∷ xs) l e = ap (λ z. z ∷ xs) (sym e)
-lowered_already (suc i) (x ∷ xs) l e = ap (λ zs. x ∷ zs) (lowered_already i xs (omega arith) e)

@@ -75,9 +75,6 @@ module _ (keeps : Bool) (kinds : List Kind) where
 
 -- one batch more
 module _ (setting : Setting) (keeps : Bool) (j : PlainLoop) (slots : List Slot) (left : ℕ) (low : ℤ) (i : ℕ) where
-  pub no_batches : AreBatches setting keeps j slots left low i []
-  no_batches = record { parts = []; sums = tt; answers = tt }
-
   pub batches_more : (bs : List Batch) (b : Batch) (number : ℤ) (most : ℕ) → AreBatches setting keeps j slots left low i bs → IsBatchFrom setting keeps j slots left number most b → number ≡ low +ℤ pos (i + instances_in bs)
       → AreBatches setting keeps j slots left low i (bs ++ b ∷ [])
   batches_more bs b number most h one at =

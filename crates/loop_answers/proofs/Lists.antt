@@ -1,6 +1,6 @@
 -- Batches one after another: what is known of each, and what they leave so far.
-use Rattle.std.proofs.Common.{◌≡◌, ℕ, suc, ◌+◌, ◌-◌, ◌<◌, ◌≤◌, ℤ, List, [], ◌∷◌, map, length, drop, get_or, slice_get, All, Some, sym, ap, ◌∙◌, subst, arith}
-use Rattle.std.proofs.lemmas.List.{drop_more, drop_all, get_or-map, length-map}
+use Rattle.std.proofs.Common.{◌≡◌, ℕ, suc, ◌+◌, ◌-◌, ◌<◌, ℤ, List, [], ◌∷◌, map, length, drop, get_or, slice_get, All, Some, sym, ap, ◌∙◌, subst, arith}
+use Rattle.std.proofs.lemmas.List.{drop_more, get_or-map, length-map}
 use Rattle.std.proofs.lemmas.List.Elements.{All-get_or}
 use Rattle.rerun_records.specs.declared.batch.Batch.{Batch}
 use Rattle.record_theory.specs.Record.{PlainRecord}
@@ -41,11 +41,6 @@ counts_more xs i b t u total within at is so_far =
     ∙ ap (λ n. record t { reused = n }) more
     ∙ ap (λ bs. answered_more (instances_in bs) t) (sym (drop_more xs i b within ∙ ap (λ c. c ∷ drop (i + 1) xs) (sym at)))
     ∙ so_far
-
-pub counts_all : (xs : List Batch) (i : ℕ) (t total : PlainTally) → length xs ≤ i → answered_more (instances_in (drop i xs)) t ≡ total → t ≡ total
-counts_all xs i t total over so_far =
-    let none : t.reused ≡ t.reused + 0 = omega arith in
-    ap (λ n. record t { reused = n }) none ∙ ap (λ bs. answered_more (instances_in bs) t) (sym (drop_all i xs over)) ∙ so_far
 
 -- the arguments of the last one
 pub last_at : {A : Type 0} (f : A → PlainRecord) (vs : List ℤ) (xs : List A) (x : A) → Some x ≡ slice_get xs (length xs - 1) → arguments_of_last vs (map f xs) ≡ (f x).arguments

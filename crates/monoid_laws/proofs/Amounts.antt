@@ -147,9 +147,6 @@ AreAbove-at k (x ∷ es) (suc i) e h g is = AreAbove-at k es i e (h.1) (omega ar
 lt_trans : (a b c : ℤ) → a <ℤ b → b <ℤ c → a <ℤ c
 lt_trans a b c h g = omega (arith, ints)
 
-lt_le_trans : (a b c : ℤ) → a ≤ℤ b → b <ℤ c → a <ℤ c
-lt_le_trans a b c h g = omega (arith, ints)
-
 -- a key above the i-th goes behind it
 pub add_at_past : (k v : ℤ) (es : List (ℤ × ℤ)) (i j : ℕ) (e : ℤ × ℤ) → IsRising es → i < length es → j ≡ suc i → e ≡ get_or es i e → e.0 <ℤ k
     → add_at k v es ≡ take j es ++ add_at k v (drop j es)

@@ -38,10 +38,6 @@ use Rattle.position_theory.proofs.Starts.{start_moved}
 
 -- ---- settled slots
 
-same_itself : (n : Place) → same_name n n ≡ true
-same_itself [] = refl
-same_itself (k ∷ n) = ap (λ b. b && same_name n n) (eq-eqb k k refl) ∙ same_itself n
-
 and_true : (b : Bool) → (b && true) ≡ b
 and_true true = refl
 and_true false = refl

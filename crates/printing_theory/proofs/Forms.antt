@@ -1,16 +1,13 @@
 -- The normal form of a text.
-use Rattle.std.proofs.Common.{◌≡◌, ℕ, ◌≤◌, List, length, Err, sym, subst, ◌∙◌, ap}
+use Rattle.std.proofs.Common.{◌≡◌, ℕ, ◌≤◌, List, length, sym, subst, ◌∙◌, ap}
 use Rattle.meaning.specs.Tree.{Tree}
 use Rattle.meaning.specs.TreeView.{Lined, tree}
-use Rattle.source_tree.specs.Source.{Source}
 use Rattle.token_scanner.specs.Scanning.{longest_text}
-use Rattle.token_readers.specs.declared.fault.TextError.{TextError}
-use Rattle.token_readers.specs.declared.fault.TextError.TheVariants.{NoMemory, Text}
-use Rattle.procedure_parser.specs.Correct.{IsSource, IsText, Answers, IsFault}
+use Rattle.procedure_parser.specs.Correct.{IsText}
 use Rattle.procedure_parser.proofs.OneMeaning.{one_tree}
 use Rattle.program_printer.specs.Printing.{printed}
 use Rattle.printing_theory.specs.Again.{HasTree}
-use Rattle.printing_theory.specs.Normal.{IsNormalForm, HasNoForm}
+use Rattle.printing_theory.specs.Normal.{IsNormalForm}
 use Rattle.printing_theory.proofs.Round.{prints_again}
 
 text_again : (program text : List ℕ) (t : Tree) (l : List Lined) → IsText program t l → text ≡ printed t → length text ≤ longest_text → HasTree text t
@@ -30,7 +27,3 @@ again program text n h =
     let p = n.is_program in
     let same = n.is_same p.0 p.1 p.2 h in
     formed text text p.0 same.0 same.1 (n.is_printed p.0 p.1 p.2)
-
-pub refused : (program : List ℕ) (e : TextError) → IsFault program e → ((s : Source) → IsSource s program → Answers (Err e) s) → HasNoForm program e
-refused program NoMemory f g = tt
-refused program (Text line) f g = (f, g)

@@ -204,10 +204,6 @@ signed_law ts =
           (λ n us w. gives_at _ (pos n) us (λ v ys w. unsigned n ys v w)))
     ]
 
--- a nought
-a_signed : (v : Words) → Signed (pos 0) ((Number (pos 0), 0) ∷ v) v
-a_signed v = unsigned 0 ((Number (pos 0), 0) ∷ v) v (within 0 0 v (omega arith) (omega arith))
-
 more_signed_law : (n : ℕ) (ts : Words) → LawAt (more_signed_at n) (MoreSigned n) ts
 unfolding more_signed_at
 more_signed_law zero ts =

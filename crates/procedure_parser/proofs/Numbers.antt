@@ -8,9 +8,6 @@ use Rattle.procedure_parser.specs.Grammar.{Form, Within, within}
 use Rattle.procedure_parser.proofs.Law.{nothing, LawAt, IsLocal, by_reply, reply_as, gives_at, skip_at, heads_run}
 use Rattle.procedure_parser.proofs.Head.{on_bool, on_option, local}
 
-pub count_local : IsLocal front_count
-count_local = local front_count (λ w us vs. refl)
-
 number_there : (z : ℤ) (n l : ℕ) (us : Words) → count_of z ≡ Some n → (Number z, l) ∷ us ≡ (Number (pos n), l) ∷ us
 number_there (pos k) n l us h = let e : k ≡ n = (cc) in ap (λ (k : ℕ). (Number (pos k), l) ∷ us) e
 number_there (negsuc k) n l us h = absurd cc

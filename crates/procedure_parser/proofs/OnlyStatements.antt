@@ -100,9 +100,6 @@ no_way e ts us f =
 
 -- ---- lists of expressions
 
-comma_ends : (ts : Words) → starts Comma ts ≡ true → EndsExpr ts
-comma_ends ts h = let s = starts_is Comma ts h in subst (λ (w : Words). EndsExpr w) (sym s.2) (ends_comma s.0 s.1)
-
 only_comma : (ts us : Words) (e : Phrase) → CommaExpr e ts us → (starts Comma ts ≡ true) × EndsExpr ts × (EndsExpr us → comma_expr_at ts ≡ Ok (e, us))
 unfolding comma_expr_at mark_at
 only_comma _ _ _ (comma_expr e l ts us w) = (refl, ends_comma l ts, λ h. only_whole e ts us w h)

@@ -1,24 +1,16 @@
 -- Parameters, cells and declarations, read one in each turn.
-use Rattle.std.proofs.Common.{◌≡◌, ℕ, zero, suc, ◌-◌, Bool, true, false, cond, ltb, List, [], ◌∷◌, ◌++◌, Result, Ok, Err, refl, sym, ap, subst, ◌∙◌, arith}
+use Rattle.std.proofs.Common.{◌≡◌, ℕ, zero, suc, ◌-◌, Bool, true, ltb, List, [], ◌∷◌, ◌++◌, Result, Ok, refl, sym, ap, subst, ◌∙◌, arith}
 use Rattle.std.proofs.lemmas.Bool.{lt-ltb}
 use Rattle.token_readers.specs.declared.fault.ParseError.{ParseError}
 use Rattle.token_scanner.specs.declared.token.Mark.TheVariants.{Comma}
-use Rattle.token_scanner.specs.Words.{Words, starts, starts_over, rest}
+use Rattle.token_scanner.specs.Words.{Words, starts, rest}
 use Rattle.source_tree.specs.Source.{Decl, Source}
 use Rattle.token_readers.specs.Reading.{◌>>=◌, Gives, Read, name_at}
-use Rattle.procedure_parser.specs.Reading.{with_front, over_as, comma_number_at, more_cells_at, more_params_at, procedure_at, procedure_word_at, counted, worded}
+use Rattle.procedure_parser.specs.Reading.{with_front, comma_number_at, more_cells_at, more_params_at, procedure_at, procedure_word_at, counted, worded}
 use Rattle.procedure_parser.proofs.Many.{regroup}
 
 pub gives_along : {X Y : Type 0} (view : X → Y) (r : Result X ParseError) (a b : Result Y Words) → a ≡ b → Gives view r a → Gives view r b
 gives_along view r a b e g = subst (λ (y : Result _ Words). Gives view r y) e g
-
-pub over_stuck : {A : Type 0} (x : A) (ts : Words) → starts_over ts ≡ false → over_as x ts ≡ Err ts
-unfolding over_as
-over_stuck x ts h = ap (λ (b : Bool). cond b (Ok (x, rest ts)) (Err ts)) h
-
-pub param_over : (all : List (List ℕ)) (ts : Words) (n : ℕ) → n ≡ 0 → starts Comma ts ≡ true → starts_over (rest ts) ≡ false → with_front all (more_params_at n ts) ≡ Err (rest ts)
-unfolding more_params_at
-param_over all ts n z h o = rw (z, h, over_stuck {A = List (List ℕ)} [] (rest ts) o) refl
 
 pub param_turn : (all : List (List ℕ)) (ts us : Words) (n : ℕ) (x : List ℕ) → (n ≡ 0 → ⊥) → starts Comma ts ≡ true → name_at (rest ts) ≡ Ok (x, us) → with_front (all ++ x ∷ []) (more_params_at (n - 1) us) ≡ with_front all (more_params_at n ts)
 unfolding more_params_at
@@ -31,9 +23,6 @@ cell_turn size all ts us zero x z e = absurd (z refl)
 cell_turn size all ts us (suc n) x z e = let k : suc n - 1 ≡ n = omega arith in rw (k, e) (sym (regroup all x (more_cells_at size n us)))
 
 module _ (n : ℕ) (item : Words → Read Decl) (next : Words → Read Source) (all : Source) (ts : Words) where
-  pub counted_over : n ≡ 0 → starts_over ts ≡ false → with_front all (counted n item next ts) ≡ Err ts
-  counted_over z o = rw (z, over_stuck {A = Source} [] ts o) refl
-
   pub counted_turn : (us : Words) (d : Decl) → (n ≡ 0 → ⊥) → item ts ≡ Ok (d, us) → with_front (all ++ d ∷ []) (next us) ≡ with_front all (counted n item next ts)
   counted_turn us d z e = let lt : ltb 0 n ≡ true = lt-ltb _ _ (omega (arith, z)) in rw (lt, e) (sym (regroup all d (next us)))
 

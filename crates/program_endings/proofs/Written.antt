@@ -3,18 +3,12 @@ use Rattle.std.proofs.Common.{◌≡◌, ℕ, ◌+◌, ◌-◌, ◌≤◌, List,
 use Rattle.std.proofs.Math.Seq.{take-add, take-append_seam}
 use Rattle.std.proofs.lemmas.List.{take_all, take-append-drop}
 use Rattle.std.specs.Prelude.{IfSome}
-use Rattle.std.specs.Io.KnownBytes.{Appends, Keeps}
+use Rattle.std.specs.Io.KnownBytes.{Appends}
 use Rattle.program_endings.specs.Written.{HasBeginning}
 
 pub Appends-nothing : (a : Option (List ℕ)) → Appends a a []
 Appends-nothing None = tt
 Appends-nothing (Some xs) = sym (append-nil xs)
-
-pub Appends-kept : (a b c : Option (List ℕ)) (xs : List ℕ) → Appends a b xs → Keeps b c → Appends a c xs
-Appends-kept None b c xs p q = tt
-Appends-kept (Some a) None c xs p q = absurd p
-Appends-kept (Some a) (Some b) None xs p q = absurd q
-Appends-kept (Some a) (Some b) (Some c) xs p q = cc
 
 pub Appends-more : (a b c : Option (List ℕ)) (xs ys : List ℕ) → Appends a b xs → Appends b c ys → Appends a c (xs ++ ys)
 Appends-more None b c xs ys p q = tt
@@ -43,14 +37,6 @@ beginning_after a b c done part rest all wrote (n, more) is =
     let whole : (done ++ take n part) ++ (drop n part ++ rest) ≡ all =
     rw (append_assoc, ← append_assoc (take n part) (drop n part) rest, take-append-drop n part) is in
     beginning_of a c (done ++ take n part) (drop n part ++ rest) all (Appends-more a b c done (take n part) wrote more) whole
-
--- where nothing is written
-pub beginning_kept : (a b : Option (List ℕ)) (all : List ℕ) → Keeps a b → HasBeginning a b all
-beginning_kept a b all kept = (0, Appends-kept a a b [] (Appends-nothing a) kept)
-
--- what is kept after a beginning
-pub beginning_then_kept : (a b c : Option (List ℕ)) (all : List ℕ) → HasBeginning a b all → Keeps b c → HasBeginning a c all
-beginning_then_kept a b c all (n, wrote) kept = (n, Appends-kept a b c (take n all) wrote kept)
 
 -- where nothing is written, whatever was to be
 pub nothing_written : (o a : Option (List ℕ)) (all : List ℕ → List ℕ) → IfSome o (λ x. HasBeginning a a (all x))

@@ -10,7 +10,7 @@ use Rattle.meaning.specs.Tree.{Name, Deed, bind, enter, read, sync, update, choo
 use Rattle.token_scanner.specs.declared.token.Mark.TheVariants as mark
 use Rattle.token_scanner.specs.Words.{Word, Sign}
 use Rattle.token_spelling.specs.Spelling.{written, starts_else, PutsBlock}
-use Rattle.program_printer.specs.Printing.{deed_words, body_words, else_words, is_end, memo_words, proc_words, decl_words, printed_words}
+use Rattle.program_printer.specs.Printing.{deed_words, body_words, is_end, memo_words, proc_words, decl_words, printed_words}
 
 pub deed_first : (names : List Name) (d : Deed) (us : List Word) → starts_else (deed_words names d us) ≡ false
 deed_first names (bind x e) us = refl
@@ -27,14 +27,6 @@ deed_first names (give e) us = refl
 pub body_first : (names : List Name) (b : Body) (us : List Word) → starts_else us ≡ false → starts_else (body_words names b us) ≡ false
 body_first names end us h = h
 body_first names (step n d rest) us h = deed_first names d (body_words names rest us)
-
-pub else_there : (names : List Name) (b : Body) (us : List Word) → is_end b ≡ false → else_words names b us ≡ Sign mark.Else ∷ Sign mark.OpenBrace ∷ body_words names b (Sign mark.CloseBrace ∷ us)
-else_there names end us h = absurd cc
-else_there names (step n d rest) us h = refl
-
-pub else_absent : (names : List Name) (b : Body) (us : List Word) → is_end b ≡ true → else_words names b us ≡ us
-else_absent names end us h = refl
-else_absent names (step n d rest) us h = absurd cc
 
 -- one more statement of some
 pub statement_put : (names : List Name) (inner : ℕ → Body) (body : List Statement) (i : ℕ) (s : Statement) (old mid new : List ℕ) → i < length body → s ≡ slice_index_or body i s

@@ -1,5 +1,5 @@
 -- Which readings of a row and of its table's totals hold at one time and not at another.
-use Rattle.std.proofs.Common.{◌≡◌, ℕ, zero, suc, ◌+◌, ◌<◌, ◌≤◌, ℤ, pos, Bool, true, false, true≢false, cond, not, ne_eqb, List, [], ◌∷◌, ◌++◌, length, Option, Some, None, refl, sym, ap, ap₂, ◌∙◌, subst₂, arith}
+use Rattle.std.proofs.Common.{◌≡◌, ℕ, zero, suc, ◌+◌, ◌<◌, ◌≤◌, ℤ, pos, Bool, true, false, true≢false, cond, not, ne_eqb, List, [], ◌∷◌, ◌++◌, length, Option, Some, None, refl, sym, ap, ap₂, ◌∙◌, arith}
 use Rattle.std.specs.Prelude.{◌&&◌, ◌||◌, nat_eq, slice_get}
 use Rattle.std.specs.List.{list_any, AllByRecursion, IsDistinct}
 use Rattle.std.specs.Ordering.{int_eq}
@@ -355,12 +355,6 @@ same_but_back table row before now h = record {
   limits = λ t e. sym (h.limits t e);
   sums = λ t c e. sym (h.sums t c e);
 }
-
--- and one of those the other way round where it holds now and didn't before
-pub held_back : (a b : PlainBefore) (before now : Tables) → IsBefore before a → IsBefore now b → a.table ≡ b.table → a.row ≡ b.row → length a.sums ≡ length b.sums
-    → IsSameBut a.table a.row before now → (n : Note) → is_among same_note (held_only b a) n ≡ (note_agrees now n && not (note_agrees before n))
-held_back a b before now was is table row wide same =
-    held_is b a now before is was (sym table) (sym row) (sym wide) (subst₂ (λ t r. IsSameBut t r now before) table row (same_but_back a.table a.row before now same))
 
 -- ---- each is another
 

@@ -105,9 +105,6 @@ module _ (ks : List Kind) (ws : List Worth) (e : ℕ × Worth) (es : List (ℕ �
   pub next_of_kind : (k : Kind) → k ≡ get_or ks e.0 k → IsWorth k e.1
   next_of_kind k at = value_at_kind ks e.0 k e.1 values.1 at
 
-  pub next_values : AreValuesFrom 0 ks es
-  next_values = values_lower 0 (suc e.0) ks es (omega arith) values.2
-
   module _ (k : Kind) (x : Worth) (at_k : k ≡ get_or ks e.0 k) (at_x : x ≡ get_or ws e.0 x) where
     pub next_worths : AreWorths ks (set ws e.0 (operate k x e.1))
     next_worths = AreWorths-set ks ws e.0 k (operate k x e.1) are at_k

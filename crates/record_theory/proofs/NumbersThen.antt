@@ -61,11 +61,6 @@ stays most n false l e = omega (arith, l)
 pub number_stays : (n : ℕ) → n ≤ most_number → number_by n 0 0 ≡ n
 number_stays n l = stays most_number n (nat_eq n most_number) l refl
 
--- the greatest is left
-pub most_stays : (n gone back : ℕ) → n ≡ most_number → n ≡ number_by n gone back
-most_stays n gone back e =
-    e ∙ ap (λ b. cond b most_number (min most_number ((n + gone) - back))) (sym ((Decides-eqb n most_number).1 e))
-
 -- where none of the readings rests on the change, and all that are lost or won do
 pub untouched_stays : (change : ℕ × ℤ) (lost won reads : List Note) (n : ℕ) → every (λ y. not (is_apart (change ∷ []) y)) (lost ++ won) ≡ true
     → every (is_apart (change ∷ [])) reads ≡ true → n ≤ most_number → n ≡ number_then lost won n reads

@@ -53,10 +53,6 @@ above_more : (j k : ℤ) (es : List (ℤ × ℤ)) → j <ℤ k → AreAbove k es
 above_more j k [] h a = tt
 above_more j k (e ∷ es) h a = (let x : k <ℤ e.0 = a.0 in omega (arith, ints), above_more j k es h (a.1))
 
-pub rising_one : (xs : List (ℤ × ℤ)) → IsRising (take 1 xs)
-rising_one [] = tt
-rising_one (x ∷ xs) = (tt, tt)
-
 pub rising_step : (xs : List (ℤ × ℤ)) (i : ℕ) (a b : ℤ × ℤ) → suc i < length xs → a ≡ get_or xs i a → b ≡ get_or xs (suc i) b → a.0 <ℤ b.0
     → IsRising (take (suc i) xs) → IsRising (take (suc (suc i)) xs)
 rising_step [] i a b h e f g r = absurd (omega arith)

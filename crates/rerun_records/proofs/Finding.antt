@@ -1,6 +1,6 @@
 -- Which record is found, and whether it is valid.
 use Rattle.std.proofs.Common.{◌≡◌, ℕ, zero, suc, ℤ, Bool, true, false, cond, List, [], ◌∷◌, length, map, Option, Some, None, refl, sym, ap, ◌∙◌, subst, get_or}
-use Rattle.std.specs.Prelude.{◌&&◌, slice_get, option_map}
+use Rattle.std.specs.Prelude.{slice_get, option_map}
 use Rattle.std.proofs.lemmas.Option.{get_or_from_slice_get}
 use Rattle.std.specs.List.{find, IsDistinct}
 use Rattle.meaning.specs.Tables.{Tables}
@@ -56,10 +56,6 @@ module _ (revisions : List (Name × ℕ)) (tables : Tables) (depth : ℕ) where
   valid_so rs place m valid single there e = ap (λ b. cond b (Some m) None) e ∙ sym (valid_there rs place m single there)
 
 -- ---- a test of three parts
-
-pub three : (a b c : Bool) → (a && (b && c)) ≡ ((a && b) && c)
-three true b c = refl
-three false b c = refl
 
 -- ---- numbers by their places
 

@@ -40,9 +40,6 @@ at_place q (x ∷ xs) p e h =
 
 -- ---- blocks by numbers
 
-pub remain_all : (bs : List (Option PlainBlock)) → Remain bs bs
-remain_all bs n b e = e
-
 pub remain_same : (now before : List (Option PlainBlock)) → now ≡ before → Remain now before
 remain_same now before e n b h = subst (λ bs. live_at bs n ≡ Some b) e h
 
@@ -51,9 +48,6 @@ remain_then now mid before f g n b e = g n b (f n b e)
 
 pub nothing_live : (n : ℕ) (b : PlainBlock) → live_at [] n ≡ Some b → ⊥
 nothing_live n b e = cc
-
-pub none_remain : (now before : List (Option PlainBlock)) → now ≡ [] → Remain now before
-none_remain now before e n b h = absurd (nothing_live n b (subst (λ bs. live_at bs n ≡ Some b) e h))
 
 pub set_remain : (bs : List (Option PlainBlock)) (i : ℕ) → Remain (slice_set bs i None) bs
 set_remain [] i n b e = e
@@ -69,9 +63,6 @@ pub set_gone : (bs : List (Option PlainBlock)) (i : ℕ) (b : PlainBlock) → li
 set_gone [] i b e = cc
 set_gone (x ∷ xs) zero b e = cc
 set_gone (x ∷ xs) (suc i) b e = set_gone xs i b e
-
-pub dropped_gone : (now before : List (Option PlainBlock)) (i : ℕ) (b : PlainBlock) → now ≡ slice_set before i None → live_at now i ≡ Some b → ⊥
-dropped_gone now before i b e h = set_gone before i b (subst (λ bs. live_at bs i ≡ Some b) e h)
 
 -- a block that was put in is the one of its number, the others are as they were
 pub set_some : (bs : List (Option PlainBlock)) (i n : ℕ) (x b : PlainBlock) → live_at (slice_set bs i (Some x)) n ≡ Some b → ((n ≡ i) × (b ≡ x)) ⊎ (live_at bs n ≡ Some b)
@@ -90,12 +81,6 @@ push_remain [] zero b e = absurd cc
 push_remain [] (suc n) b e = absurd cc
 push_remain (x ∷ xs) zero b e = e
 push_remain (x ∷ xs) (suc n) b e = push_remain xs n b e
-
--- a number at which there is a block is below their count
-pub live_within : (bs : List (Option PlainBlock)) (n : ℕ) (b : PlainBlock) → live_at bs n ≡ Some b → n < length bs
-live_within [] n b e = absurd cc
-live_within (x ∷ xs) zero b e = omega arith
-live_within (x ∷ xs) (suc n) b e = let h = live_within xs n b e in omega (arith, h)
 
 -- ---- homes
 
@@ -146,22 +131,6 @@ moved_kept (h ∷ hs) zero number zero e = same_number number
 moved_kept (h ∷ hs) zero number (suc p) e = e
 moved_kept (h ∷ hs) (suc i) number zero e = e
 moved_kept (h ∷ hs) (suc i) number (suc p) e = moved_kept hs i number p e
-
-pub moved_there : (homes : List ℕ) (place number : ℕ) → place < length homes → is_home (slice_set homes place number) number place ≡ true
-moved_there [] place number l = absurd (omega (arith, l))
-moved_there (h ∷ hs) zero number l = same_number number
-moved_there (h ∷ hs) (suc i) number l = moved_there hs i number (omega (arith, l))
-
-pub longer_kept : (homes more : List ℕ) (n p : ℕ) → is_home homes n p ≡ true → is_home (homes ++ more) n p ≡ true
-longer_kept [] more n p e = absurd (true≢false (sym e))
-longer_kept (h ∷ hs) more n zero e = e
-longer_kept (h ∷ hs) more n (suc p) e = longer_kept hs more n p e
-
-pub behind_there : (homes : List ℕ) (place number : ℕ) → length homes ≡ place → is_home (homes ++ number ∷ []) number place ≡ true
-behind_there [] zero number e = same_number number
-behind_there [] (suc i) number e = absurd (omega (arith, e))
-behind_there (h ∷ hs) zero number e = absurd (omega (arith, e))
-behind_there (h ∷ hs) (suc i) number e = behind_there hs i number (omega (arith, e))
 
 pub kept_housed : (homes news : List ℕ) (bs : List (Option PlainBlock)) → ((n p : ℕ) → is_home homes n p ≡ true → is_home news n p ≡ true) → AreHoused homes bs → AreHoused news bs
 kept_housed homes news bs kept h n b e = every_weaker (is_home homes n) (is_home news n) b.places (kept n) (h n b e)

@@ -1,8 +1,6 @@
 -- Of what tables held at one time each cell has one value, so a reading of a cell tells which others of it there are.
-use Rattle.std.proofs.Common.{◌≡◌, ℕ, zero, suc, ◌<◌, ℤ, Bool, true, false, true≢false, List, [], ◌∷◌, Option, Some, None, length, refl, sym, ap, ◌∙◌, subst, arith, get_or}
+use Rattle.std.proofs.Common.{◌≡◌, ℕ, ℤ, Bool, true, false, true≢false, List, [], ◌∷◌, Option, Some, None, refl, sym, ap, ◌∙◌, subst}
 use Rattle.std.specs.Prelude.{◌||◌}
-use Rattle.std.specs.Ordering.{int_eq}
-use Rattle.std.proofs.lemmas.Bool.Decides.{Decides-int_eq}
 use Rattle.std.proofs.lemmas.List.Elements.{All-nil, All-cons, All-head, All-tail}
 use Rattle.meaning.specs.Every.{every}
 use Rattle.meaning.specs.Records.{same_number}
@@ -17,7 +15,6 @@ use Rattle.record_theory.specs.Numbers.{with_numbers}
 use Rattle.record_theory.specs.OneTime.{IsOfOneTime, AreOfOneTime}
 use Rattle.record_theory.specs.Same.{same_note, is_read}
 use Rattle.record_theory.specs.Validity.{note_agrees}
-use Rattle.record_theory.proofs.InStep.{both_decide}
 use Rattle.record_theory.proofs.Members.{left_is, right_is}
 use Rattle.record_theory.proofs.Puts.{all_put_in}
 use Rattle.record_theory.proofs.Same.{integer_is, note_is}
@@ -75,15 +72,4 @@ put_once ns news rs list made e a b =
 pub first_once : (news : List ℕ) (list made : List PlainRecord) → with_numbers news list ≡ put_records [] made → AreOfOneTime [] → AreOfOneTime made → AreOfOneTime list
 first_once news list made e a b = without_numbers_once news list (subst AreOfOneTime (sym e) (all_put_in (λ (x : PlainRecord). IsOfOneTime x.reads) [] made a b))
 
-pub one_of_them : (rs : List PlainRecord) (k : ℕ) (r : PlainRecord) → k < length rs → r ≡ get_or rs k r → AreOfOneTime rs → IsOfOneTime r.reads
-one_of_them [] k r l at a = absurd (omega (arith, l))
-one_of_them (x ∷ rs) zero r l at a = subst (λ (y : PlainRecord). IsOfOneTime y.reads) (sym at) (All-head (λ (y : PlainRecord). IsOfOneTime y.reads) x rs a)
-one_of_them (x ∷ rs) (suc k) r l at a = one_of_them rs k r (omega (arith, l)) at (All-tail (λ (y : PlainRecord). IsOfOneTime y.reads) x rs a)
-
 -- ---- a cell by one of its readings
-
-pub told_by_value : (reads : List Note) (t : ℕ) (row : ℤ) (c : ℕ) (v w : ℤ) → IsOfOneTime reads → is_read reads (Cell t row c v) ≡ true → int_eq v w ≡ is_read reads (Cell t row c w)
-told_by_value reads t row c v w once e =
-    both_decide (int_eq v w) (is_read reads (Cell t row c w))
-    (λ f. subst (λ (x : ℤ). is_read reads (Cell t row c x) ≡ true) (integer_is v w f) e)
-    (λ f. (Decides-int_eq v w).1 (once t row c v w e f))

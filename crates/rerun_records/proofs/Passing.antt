@@ -10,7 +10,7 @@ use Rattle.record_theory.specs.Record.{PlainRecord}
 use Rattle.instance_records.specs.declared.spans.Span.{Span}
 use Rattle.instance_records.specs.Spans.{is_covered_by}
 use Rattle.record_theory.specs.InStep.{is_apart}
-use Rattle.rerun_records.specs.Covers.{PlainCovers, AreCoveredBut, AreCovered, AreKept, AreApart, AreSameBut}
+use Rattle.rerun_records.specs.Covers.{PlainCovers, AreCoveredBut, AreKept, AreApart, AreSameBut}
 use Rattle.rerun_records.specs.Skips.{PlainSkip, PlainSkips, IsInHull, LiesIn, PassBut, Reaches}
 use Rattle.record_theory.proofs.Members.{every_weaker}
 use Rattle.instance_records.proofs.Joined.{below}
@@ -46,13 +46,6 @@ behind_got (x ∷ xs) y s (suc i) e =
       | inl l ↦ inl l
       | inr t ↦ inr (ap suc t.0, t.1)
     ]
-
-not_here : (p place : ℕ) → ((p ≡ place) → ⊥) → nat_eq p place ≡ false
-not_here p place d =
-    elim (nat_eq p place) as (λ b. nat_eq p place ≡ b → b ≡ false) [
-      | true ↦ λ e. absurd (d ((Decides-eqb p place).0 e))
-      | false ↦ λ e. refl
-    ] refl
 
 same_skip : (xs : List PlainSkip) (i : ℕ) (s t : PlainSkip) → slice_get xs i ≡ Some s → slice_get xs i ≡ Some t → s ≡ t
 same_skip xs i s t e f = (let g : Some s ≡ Some t = sym e ∙ f in cc (g))
@@ -177,18 +170,6 @@ ends_before places records done skips middle place x c within e until =
     one_more_skip (λ s. s.until ≤ place) skips middle x e until (λ i s l at. (let ordered = c.order i middle s x l at at_x in omega (arith, ordered, until)))
 
 -- ---- one more hull
-
-pub empty_pass : (records : List PlainRecord) → PassBut [] records (with_done 0 [])
-empty_pass records = record {
-  full = omega arith;
-  some = λ i s at. absurd cc;
-  ends = λ i s at. absurd cc;
-  few = λ i s at. absurd cc;
-  order = λ i j s t l at. absurd cc;
-  apart = λ i j s t l at. absurd cc;
-  inside = λ i j s t m l at. absurd cc;
-  held = λ i p s r at. absurd cc;
-}
 
 -- more or fewer places are done
 pub done_pass : (places : List ℕ) (records : List PlainRecord) (done new : ℕ) (skips : List PlainSkip) → PassBut places records (with_done done skips) → new ≤ length records
@@ -386,7 +367,3 @@ late_too place before now covers same =
 
 pub appended_kept : (records more : List PlainRecord) (covers : PlainCovers) → AreKept records covers → AreKept (records ++ more) covers
 appended_kept records more covers = covered_but covers.late [] covers.late records (records ++ more) covers (appended_same_but records more) (λ p e. (e, refl))
-
--- where no place is late
-pub none_late : (records : List PlainRecord) (covers : PlainCovers) → covers.late ≡ [] → AreCovered records covers → AreKept records covers
-none_late records covers none = subst (λ (ps : List ℕ). AreCoveredBut ps records covers) (sym none)

@@ -1,27 +1,16 @@
 -- What readings of the changed cells tell of a record that has them.
-use Rattle.std.proofs.Common.{◌≡◌, ◌≤◌, ◌<◌, ◌+◌, ℕ, suc, ℤ, Bool, true, false, true≢false, List, ◌∷◌, length, map, drop, get_or, pos, refl, sym, ap, ◌∙◌, subst, arith, cond}
+use Rattle.std.proofs.Common.{◌≡◌, ◌≤◌, ◌<◌, ◌+◌, ℕ, suc, Bool, true, false, true≢false, List, ◌∷◌, length, map, drop, get_or, pos, refl, sym, ap, ◌∙◌, subst, arith, cond}
 use Rattle.std.proofs.lemmas.List.{drop_more, drop_all}
 use Rattle.std.specs.Prelude.{◌||◌}
-use Rattle.std.specs.Ordering.{int_eq}
 use Rattle.evaluation.specs.declared.note.Note.{Note}
 use Rattle.evaluation.specs.declared.reading.Reading.{Reading}
 use Rattle.evaluation.specs.Short.{note_of}
-use Rattle.evaluation.specs.declared.note.Note.TheVariants.{Cell, Sum}
+use Rattle.evaluation.specs.declared.note.Note.TheVariants.{Sum}
 use Rattle.record_theory.specs.Counts.{how_many}
 use Rattle.record_theory.specs.OneTime.{IsOfOneTime}
 use Rattle.record_theory.specs.Same.{same_note, is_read}
 use Rattle.record_theory.proofs.Same.{note_is}
 use Rattle.rerun_records.specs.Settled.{HasNoSums, AreReadIn, TellsOf, Settles}
-use Rattle.rerun_records.proofs.OneTime.{told_by_value}
-
-pub cell_tells : (cells : List Note) (t : ℕ) (row : ℤ) (c : ℕ) (held value : ℤ) → is_read cells (Cell t row c held) ≡ true → TellsOf cells (Cell t row c value) (int_eq held value)
-cell_tells cells t row c held value e = record {
-  told = λ reads none once within.
-      sym (told_by_value reads t row c held value once (within (Cell t row c held) e));
-}
-
-pub sum_tells : (cells : List Note) (t c : ℕ) (value : ℤ) → TellsOf cells (Sum t c value) false
-sum_tells cells t c value = record { told = λ reads none once within. none t c value }
 
 -- ---- all of these were read
 

@@ -163,16 +163,6 @@ with_all keeps program tables depth rs procedure arguments counted most count su
 
 -- ---- a record at a place is the one that is found
 
-pub found_at_place : (rs : List PlainRecord) (p : ℕ) (k : PlainRecord) → map as_made rs ≡ rs → AreSingle rs → slice_get rs p ≡ Some k → find (is_of k.procedure k.arguments) rs ≡ Some k
-unfolding IsDistinct
-found_at_place [] p k s single e = absurd cc
-found_at_place (r ∷ rs) zero k s single e =
-    let there : r ≡ k = cc (e) in
-    ap (λ b. cond b (Some r) (find (is_of k.procedure k.arguments) rs)) (subst (λ (x : PlainRecord). is_of x.procedure x.arguments r ≡ true) there (of_itself r)) ∙ ap Some there
-found_at_place (r ∷ rs) (suc p) k s single e =
-    let tails : map as_made rs ≡ rs = cc (s) in
-    ap (λ b. cond b (Some r) (find (is_of k.procedure k.arguments) rs)) (other_instance r rs p k single.0 (subst (λ (xs : List PlainRecord). slice_get xs p ≡ Some k) (sym tails) e)) ∙ found_at_place rs p k tails single.1 e
-
 pub place_at_place : (rs : List PlainRecord) (p : ℕ) (k : PlainRecord) → map as_made rs ≡ rs → AreSingle rs → slice_get rs p ≡ Some k → position_or_len (is_of k.procedure k.arguments) rs ≡ p
 unfolding IsDistinct
 place_at_place [] p k s single e = absurd cc
@@ -183,11 +173,3 @@ place_at_place (r ∷ rs) (suc p) k s single e =
     let rest = place_at_place rs p k tails single.1 e in
     let other = other_instance r rs p k single.0 (subst (λ (xs : List PlainRecord). slice_get xs p ≡ Some k) (sym tails) e) in
     ap (λ b. cond (not b) (1 + position_or_len (is_of k.procedure k.arguments) rs) 0) other ∙ (let one : 1 + position_or_len (is_of k.procedure k.arguments) rs ≡ suc p = omega (arith, rest) in one)
-
-pub found_of : (procedure : ℕ) (arguments : List ℤ) (rs : List PlainRecord) (r : PlainRecord) → find (is_of procedure arguments) rs ≡ Some r → is_of procedure arguments r ≡ true
-found_of procedure arguments [] r e = absurd cc
-found_of procedure arguments (x ∷ xs) r e =
-    elim (is_of procedure arguments x) as (λ b. is_of procedure arguments x ≡ b → cond b (Some x) (find (is_of procedure arguments) xs) ≡ Some r → is_of procedure arguments r ≡ true) [
-      | true ↦ λ t f. (let same : x ≡ r = cc (f) in subst (λ (y : PlainRecord). is_of procedure arguments y ≡ true) same t)
-      | false ↦ λ t f. found_of procedure arguments xs r f
-    ] refl e

@@ -1,10 +1,8 @@
 -- How a run by given steps ends: where the definitions' steps lead to, and with the elision's answer.
-use Rattle.std.proofs.Common.{◌≡◌, ◌≤◌, ℕ, true, false, List, length, Option, Some, None, Result, Ok, Err, OnOk, OnErr, is_err, refl, sym, ap, subst, ◌∙◌}
+use Rattle.std.proofs.Common.{◌≡◌, ◌≤◌, ℕ, true, false, List, length, Option, Some, None, Result, Ok, Err, OnOk, OnErr, is_err, ap, subst, ◌∙◌}
 use Rattle.monoid_laws.specs.declared.Kind.{Kind}
 use Rattle.view_pool.specs.Stock.{Stock}
-use Rattle.meaning.specs.TreeView.{tree}
 use Rattle.meaning.specs.Elision as elision
-use Rattle.meaning.specs.Elision.{from_scratch}
 use Rattle.linked_program.specs.Checked.{PlainChecked}
 use Rattle.input_tables.specs.Edited.{Edited}
 use Rattle.record_theory.specs.Record.{PlainRecord}
@@ -14,10 +12,8 @@ use Rattle.numbered_runs.specs.declared.step.Step.{Step}
 use Rattle.worker_core.specs.Strands.{PlainStrands}
 use Rattle.worker_core.specs.Cores.{PlainCore, IsFirstCore}
 use Rattle.numbered_runs.specs.Sound.{AreSoundFor}
-use Rattle.worker_core.specs.Keeps.{IsBeginning, IsElision, IsEndBy, ComesToEnd}
-use Rattle.kept_session.specs.Sessions.{standing_of}
-use Rattle.reuse_planner.specs.Driven.{lender, IsSameRun, AreTaken, ComesBy, EndsBy}
-use Rattle.session_runs.specs.Runs.{IsFromScratch}
+use Rattle.worker_core.specs.Keeps.{IsBeginning, IsEndBy, ComesToEnd}
+use Rattle.reuse_planner.specs.Driven.{lender, AreTaken, ComesBy, EndsBy}
 use Rattle.reuse_planner.specs.Runs.{IsLedBy, IsLed, IsBegun}
 
 -- ---- the end that the steps lead to
@@ -88,26 +84,4 @@ module _ (program : PlainChecked) (tables : Edited) (records : List PlainRecord)
     pub begun_of : IsBegun given
     begun_of = begun_at c.strands steps n (subst (IsBeginning (length pool.kits)) (is_first c first) beginning) k given (subst (λ (z : PlainCore). EndsBy z steps n given) (is_first c first) h)
 
-  -- what is known of the program, tables and records of a run is known of those that it began with
-  pub of_first : (P : PlainChecked → Edited → List PlainRecord → Type 0) (c : PlainCore) → IsFirstCore program tables records pool workers c → P c.program c.tables c.records → P program tables records
-  of_first P c first h = subst (λ (z : PlainCore). P z.program z.tables z.records) (is_first c first) h
-
--- and of a later state of the run, of the run
-pub of_later : (P : PlainChecked → Edited → List PlainRecord → Type 0) (c d : PlainCore) → IsSameRun c d → P d.program d.tables d.records → P c.program c.tables c.records
-of_later P c d same h = subst (λ r. P c.program c.tables r) same.records (subst (λ t. P c.program t d.records) same.tables (subst (λ p. P p d.tables d.records) same.program h))
-
 -- ---- the elision's answer
-
-from_elision : (program : PlainChecked) (a : elision.Answer) (given : RunAnswer) → IsElision program a given → (tables : Edited) → from_scratch (tree program.program) tables.tables ≡ a
-    → (pool : Stock (List Kind)) (records : List PlainRecord) → IsFromScratch (standing_of (lender program tables pool records)) given
-from_elision program (elision.Finished v ws) (answer.Finished w got n m k) h tables e pool records = e ∙ (ap (λ u. elision.Finished u ws) (sym h.0) ∙ ap (elision.Finished w) (sym h.1))
-from_elision program (elision.Finished v ws) (answer.Fault f) h tables e pool records = absurd h
-from_elision program (elision.Faulted k) (answer.Finished w got n m i) h tables e pool records = absurd h
-from_elision program (elision.Faulted k) (answer.Fault f) h tables e pool records = e ∙ ap elision.Faulted (sym h)
-from_elision program a answer.Unfinished h tables e pool records = tt
-from_elision program a answer.NoMemory h tables e pool records = tt
-from_elision program a answer.NoKit h tables e pool records = tt
-
-pub is_from_scratch : (program : PlainChecked) (tables : Edited) (pool : Stock (List Kind)) (records : List PlainRecord) (given : RunAnswer)
-    → IsElision program (from_scratch (tree program.program) tables.tables) given → IsFromScratch (standing_of (lender program tables pool records)) given
-is_from_scratch program tables pool records given h = from_elision program (from_scratch (tree program.program) tables.tables) given h tables refl pool records

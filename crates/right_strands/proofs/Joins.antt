@@ -334,10 +334,3 @@ module _ (setting : Setting) where
       → OnErr res (operate_all l.layer.kinds l'.layer.worths r'.layer.worths ≡ operate_all l.layer.kinds l.layer.worths r.layer.worths) → IsPairFrom setting start l r → OnErr res (IsPairFrom setting start l' r')
   half_or l r l' r' start (Ok n) a b e h = tt
   half_or l r l' r' start (Err n) a b e h = half_kept l r l' r' start a b e h
-
-  pub half_held : (l l' : PlainStrand) (given : Start) (failed : Bool) → l' ≡ with_worths l'.layer.worths l → IsHeld setting given failed l → IsHeld setting given true l'
-  half_held l l' given failed e h = record {
-    kinds = ap (λ (s : PlainStrand). s.layer.kinds) e ∙ h.kinds;
-    right = λ n. absurd cc;
-    begins = λ n. absurd cc;
-  }

@@ -68,9 +68,6 @@ module _ (setting : Setting) (ready : IsReady setting.program setting.tables set
 pub kinds_are : (setting : Setting) (p : PlainChecked) (e : Edited) (r : List PlainRecord) → IsSet setting p e r → p.kinds ≡ setting.kinds
 kinds_are setting p e r h = ap (λ (i : Setting). i.kinds) h.same
 
-pub codes_are : (setting : Setting) (p : PlainChecked) (e : Edited) (r : List PlainRecord) → IsSet setting p e r → p.codes ≡ setting.codes
-codes_are setting p e r h = ap (λ (i : Setting). i.codes) h.same
-
 pub all_advanced : (setting : Setting) (p : PlainChecked) (e : Edited) (r : List PlainRecord) → IsSet setting p e r → (lacks none : Type 0) (s s' : PlainStrand) → HoldsBy lacks none (λ kit. s' ≡ advanced (setting_over p e r) kit s)
     → HoldsBy lacks none (λ kit. s' ≡ advanced setting kit s)
 all_advanced setting p e r set lacks none s s' h = record {
@@ -97,9 +94,6 @@ step_kept setting p e r set lacks none s s' adv step kinds start failed h = reco
   right = λ n k. (goes_on setting p e r set k lacks none s s' adv step (h.right n k)).right;
   begins = λ n. h.begins n ∙ (goes_on setting p e r set set.sound lacks none s s' adv step (h.right n set.sound)).begins;
 }
-
-pub failed_kept : (setting : Setting) (start start' : Start) (failed : Bool) (s s' : PlainStrand) → s'.layer.kinds ≡ s.layer.kinds → IsHeld setting start failed s → IsHeld setting start' true s'
-failed_kept setting start start' failed s s' kinds h = record { kinds = kinds ∙ h.kinds; right = λ n. cc; begins = λ n. cc }
 
 -- it is main's strand of the definitions
 pub first_named : (setting : Setting) (p : PlainChecked) (e : Edited) (r : List PlainRecord) → IsSet setting p e r → (s : PlainStrand) → ((tables : Tables) (kept : List Kept) (records : List PlainRecord) → IsFirst (setting_with p tables kept records) s) → IsFirst setting s

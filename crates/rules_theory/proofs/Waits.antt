@@ -206,10 +206,6 @@ synced_body depth place scope (step n d rest) =
 
 -- ---- after an `if`
 
-left_true : (b c : Bool) → (b && c) ≡ true → b ≡ true
-left_true true c e = refl
-left_true false c e = e
-
 right_true : (b c : Bool) → (b && c) ≡ true → c ≡ true
 right_true true c e = e
 right_true false c e = cc

@@ -1,5 +1,5 @@
 -- A loop's instance that has called so many of its iterations, and calls one more.
-use Rattle.std.proofs.Common.{◌≡◌, ◌∙◌, ℕ, zero, suc, ◌+◌, ◌-◌, ◌==◌, ◌<◌, false, None, refl, sym, ap, arith, add-one}
+use Rattle.std.proofs.Common.{◌≡◌, ◌∙◌, ℕ, zero, suc, ◌+◌, ◌-◌, ◌==◌, ◌<◌, false, None, refl, sym, ap, arith}
 use Rattle.std.proofs.lemmas.Bool.Decides.{nat_tests}
 use Rattle.positions.specs.declared.work.Loop.{Loop}
 use Rattle.positions.specs.declared.work.Share.{Share}
@@ -33,10 +33,6 @@ next_turn zero l h a = ap (λ (r : Share). called a (a.children + 1) (Turns l r)
 next_turn (suc m) l h a =
     let e : a.children + suc m + 1 ≡ a.children + suc (suc m) = omega arith in
     ap (λ (k : ℕ). called a k (Turns l (rest_of (behind (suc m) h)))) e ∙ ap (λ (r : Share). called a (a.children + suc (suc m)) (Turns l r)) (one_behind (suc m) h)
-
--- one more iteration is called
-pub one_turn : (n : ℕ) (l : Loop) (h : Share) (a : PlainActivation) → waiting false None (Turns l (rest_of (behind n h))) (turned_by n l h a) ≡ turned_by (n + 1) l h a
-one_turn n l h a = next_turn n l h a ∙ ap (λ (k : ℕ). turned_by k l h a) (sym (add-one n))
 
 -- what it has left, and what stays
 pub turns_there : (n : ℕ) (l : Loop) (h : Share) (a : PlainActivation) → a.work ≡ Turns l h → (turned_by n l h a).work ≡ Turns l (behind n h)

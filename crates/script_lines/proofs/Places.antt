@@ -28,9 +28,6 @@ module _ (script : List ℕ) (begin end : ℕ) (within : begin ≤ length script
   count : end - begin ≡ position_or_len is_line_end (drop begin script)
   count = omega (arith, ends)
 
-  pub behind_begin : begin ≤ end
-  behind_begin = omega (arith, ends)
-
   pub before_length : end ≤ length script
   before_length = omega (arith, ends, length-drop begin script, prefix_len-le-length (λ b. not (is_line_end b)) (drop begin script))
 

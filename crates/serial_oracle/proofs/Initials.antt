@@ -1,10 +1,10 @@
 -- The changes with which a run begins.
-use Rattle.std.proofs.Common.{◌≡◌, ℕ, zero, suc, ◌+◌, arith, List, [], ◌∷◌, ◌++◌, ℤ, Bool, true, false, cond, Option, Some, None, refl, ap, sym, ◌∙◌, map, drop, append_assoc, append-nil}
-use Rattle.std.specs.Prelude.{slice_get, nat_eq}
+use Rattle.std.proofs.Common.{◌≡◌, ℕ, zero, suc, ◌+◌, arith, List, [], ◌∷◌, ◌++◌, ℤ, Bool, true, false, cond, Option, Some, None, refl, ap, sym, ◌∙◌, drop, append_assoc, append-nil}
+use Rattle.std.specs.Prelude.{slice_get}
 use Rattle.std.specs.Global.{Vec}
 use Rattle.monoid_laws.specs.declared.Kind.{Kind}
 use Rattle.monoid_laws.specs.declared.Kind.TheVariants as k
-use Rattle.monoid_laws.specs.Kinds.{arity, names_element, element_of}
+use Rattle.monoid_laws.specs.Kinds.{names_element, element_of}
 use Rattle.meaning.specs.Outcome.{Log, Updates}
 use Rattle.meaning.specs.Statements.{reducers, naming, updates_by, in_pairs, in_groups, initial_updates}
 use Rattle.meaning.specs.Tree.{Red, reducer, Tree}
@@ -12,7 +12,7 @@ use Rattle.serial_oracle.specs.declared.journal.Change.{Change}
 use Rattle.serial_oracle.specs.declared.journal.Change.TheVariants as c
 use Rattle.serial_oracle.specs.declared.scope.Scope.{Scope}
 use Rattle.serial_oracle.specs.Keeping.{tree_in, records_in}
-use Rattle.serial_oracle.specs.Worths.{kinds, noticed, grouped, noted_in, is_paired, waiting}
+use Rattle.serial_oracle.specs.Worths.{kinds, noticed, grouped, noted_in, waiting}
 use Rattle.serial_oracle.proofs.Noted.{noted-append}
 
 named_log : (n : ℕ) (kind : Kind) (vs : List ℤ) (b : Bool) → (naming n kind vs b).log ≡ cond b (Updates n kind (element_of kind vs) ∷ []) []
@@ -22,15 +22,6 @@ named_log n kind vs false = refl
 noticed_group : (o : Option Kind) (n : ℕ) (vs : List ℤ) → noticed o n vs ≡ grouped o n (vs ∷ [])
 noticed_group None n vs = refl
 noticed_group (Some kind) n vs = named_log n kind vs (names_element kind vs)
-
-more_by : (n : ℕ) (kind : Kind) (vs : List ℤ) (b : Bool) (rest : Log) → cond b (Updates n kind (element_of kind vs) ∷ rest) rest ≡ cond b (Updates n kind (element_of kind vs) ∷ []) [] ++ rest
-more_by n kind vs true rest = refl
-more_by n kind vs false rest = refl
-
--- one element, and the others
-pub grouped_more : (o : Option Kind) (n : ℕ) (vs : List ℤ) (groups : List (List ℤ)) → grouped o n (vs ∷ groups) ≡ grouped o n (vs ∷ []) ++ grouped o n groups
-grouped_more None n vs groups = refl
-grouped_more (Some kind) n vs groups = more_by n kind vs (names_element kind vs) (updates_by n kind groups)
 
 pub grouped_none : (o : Option Kind) (n : ℕ) → grouped o n [] ≡ []
 grouped_none None n = refl
@@ -42,14 +33,6 @@ noted_group scope us n numbers =
     noted-append (tree_in scope) (records_in scope) us (c.Update n numbers)
     ∙ ap (λ l. noted_in scope us ++ l) (append-nil (noticed (slice_get (kinds (tree_in scope)) n) n numbers.items) ∙ noticed_group (slice_get (kinds (tree_in scope)) n) n numbers.items)
 
--- an element is noted, and the others are left
-pub one_noted : (o : Option Kind) (n : ℕ) (vs : List ℤ) (groups : List (List ℤ)) (new old all : Log) → new ≡ old ++ grouped o n (vs ∷ []) → old ++ grouped o n (vs ∷ groups) ≡ all → new ++ grouped o n groups ≡ all
-one_noted o n vs groups new old all h so_far =
-    ap (λ l. l ++ grouped o n groups) h
-    ∙ append_assoc old (grouped o n (vs ∷ [])) (grouped o n groups)
-    ∙ ap (λ l. old ++ l) (sym (grouped_more o n vs groups))
-    ∙ so_far
-
 -- none is left
 pub all_noted : (o : Option Kind) (n : ℕ) (groups : List (List ℤ)) (new all : Log) → groups ≡ [] → new ++ grouped o n groups ≡ all → new ≡ all
 all_noted o n groups new all h so_far =
@@ -59,29 +42,6 @@ all_noted o n groups new all h so_far =
 pub none_waits : (held : Option ℤ) → in_pairs (waiting held []) ≡ []
 none_waits None = refl
 none_waits (Some v) = refl
-
-pub two_at : (kind : Kind) → nat_eq (arity kind) 2 ≡ is_paired kind
-two_at k.Add = refl
-two_at k.Mul = refl
-two_at k.Min = refl
-two_at k.Max = refl
-two_at k.And = refl
-two_at k.Or = refl
-two_at k.Xor = refl
-two_at k.List = refl
-two_at (k.First n) = refl
-two_at (k.Last n) = refl
-two_at k.Argmax = refl
-two_at k.Affine = refl
-two_at k.Hist = refl
-two_at (k.Table t) = refl
-
--- the groups of a kind that takes two numbers, and of one that takes one
-pub in_twos : (kind : Kind) (vs : List ℤ) → is_paired kind ≡ true → in_groups kind vs ≡ in_pairs vs
-in_twos kind vs h = ap (λ b. cond b (in_pairs vs) (map (λ v. v ∷ []) vs)) (two_at kind ∙ h)
-
-pub in_ones : (kind : Kind) (vs : List ℤ) → is_paired kind ≡ false → in_groups kind vs ≡ map (λ v. v ∷ []) vs
-in_ones kind vs h = ap (λ b. cond b (in_pairs vs) (map (λ v. v ∷ []) vs)) (two_at kind ∙ h)
 
 -- ---- reducer by reducer
 

@@ -13,7 +13,6 @@ use Rattle.monoid_laws.specs.declared.Kind.{Kind}
 use Rattle.monoid_laws.specs.Worth.{Worth}
 use Rattle.monoid_laws.specs.Kinds.{meaning, operate, operate_all, element_of, names_element, IsWorth, AreWorths}
 use Rattle.meaning.specs.Tree.{Name, Red, Tree}
-use Rattle.meaning.specs.declared.FaultKind.TheVariants.{BadElement}
 use Rattle.meaning.specs.Outcome.{Log, after, updated, combined}
 use Rattle.meaning.specs.Statements.{numbered, reducers, identities, beginning, initial_values, naming, updating}
 use Rattle.std.specs.Global.{Vec}
@@ -99,10 +98,6 @@ named_outcome : (n : ℕ) (kind : Kind) (vs : List ℤ) (b : Bool) (acc : List W
 named_outcome n kind vs true acc h = refl
 named_outcome n kind vs false acc h = absurd cc
 
-bad_outcome : (n : ℕ) (kind : Kind) (vs : List ℤ) (b : Bool) (acc : List Worth) → b ≡ false → outcome_of (naming n kind vs b) acc ≡ (Err BadElement, acc)
-bad_outcome n kind vs false acc h = refl
-bad_outcome n kind vs true acc h = absurd cc
-
 -- the update of a reducer, from what its name stands for
 by_kind : (o : Option (ℕ × Red)) (n : ℕ) (kind : Kind) (vs : List ℤ) → option_map place_and_kind o ≡ Some (n, kind) → updating o vs ≡ naming n kind vs (names_element kind vs)
 by_kind None n kind vs h = absurd cc
@@ -110,20 +105,6 @@ by_kind (Some p) n kind vs h =
     let e : p.0 ≡ n = ap (λ o. (pair_in (p.0, p.1.kind) o).0) h in
     let f : p.1.kind ≡ kind = ap (λ o. (pair_in (p.0, p.1.kind) o).1) h in
     ap (λ m. naming m p.1.kind vs (names_element p.1.kind vs)) e ∙ ap (λ c. naming n c vs (names_element c vs)) f
-
-by_none : (o : Option (ℕ × Red)) (vs : List ℤ) (acc : List Worth) → option_map place_and_kind o ≡ None → outcome_of (updating o vs) acc ≡ (Ok tt, acc)
-by_none None vs acc h = refl
-by_none (Some p) vs acc h = absurd cc
-
-pub note_missing : (program : Tree) (name : Name) (vs : List ℤ) (acc : List Worth)
-    → option_map place_and_kind (numbered 0 (reducers program) name) ≡ None → updated_by program name vs acc ≡ (Ok tt, acc)
-note_missing program name vs acc h = by_none (numbered 0 (reducers program) name) vs acc h
-
-pub note_bad : (program : Tree) (name : Name) (n : ℕ) (kind : Kind) (vs : List ℤ) (acc : List Worth)
-    → option_map place_and_kind (numbered 0 (reducers program) name) ≡ Some (n, kind) → names_element kind vs ≡ false
-    → updated_by program name vs acc ≡ (Err BadElement, acc)
-note_bad program name n kind vs acc h b =
-    ap (λ o. outcome_of o acc) (by_kind (numbered 0 (reducers program) name) n kind vs h) ∙ bad_outcome n kind vs (names_element kind vs) acc b
 
 pub note_good : (program : Tree) (records : List Kept) (name : Name) (us : List Change) (n : ℕ) (numbers : Vec ℤ) (kind : Kind)
     → option_map place_and_kind (numbered 0 (reducers program) name) ≡ Some (n, kind) → names_element kind numbers.items ≡ true
@@ -151,16 +132,6 @@ worths_at (k ∷ ks) (u ∷ ws) (suc n) kind w a h g = worths_at ks ws n kind w 
 named_after : (n : ℕ) (kind : Kind) (vs : List ℤ) (b : Bool) (ws : List Worth) → b ≡ true → after (naming n kind vs b).log ws ≡ updated ws n kind (element_of kind vs) (slice_get ws n)
 named_after n kind vs true ws h = refl
 named_after n kind vs false ws h = absurd cc
-
-bad_after : (n : ℕ) (kind : Kind) (vs : List ℤ) (b : Bool) (ws : List Worth) → b ≡ false → after (naming n kind vs b).log ws ≡ ws
-bad_after n kind vs false ws h = refl
-bad_after n kind vs true ws h = absurd cc
-
-pub after_bad : (n : ℕ) (kind : Kind) (vs : List ℤ) (ws : List Worth) → names_element kind vs ≡ false → after (noticed (Some kind) n vs) ws ≡ ws
-after_bad n kind vs ws h = bad_after n kind vs (names_element kind vs) ws h
-
-pub after_missing : (n : ℕ) (kind : Kind) (vs : List ℤ) (ws : List Worth) → names_element kind vs ≡ true → slice_get ws n ≡ None → after (noticed (Some kind) n vs) ws ≡ ws
-after_missing n kind vs ws h g = named_after n kind vs (names_element kind vs) ws h ∙ ap (updated ws n kind (element_of kind vs)) g
 
 pub after_good : (n : ℕ) (kind : Kind) (vs : List ℤ) (ws : List Worth) (w : Worth) → names_element kind vs ≡ true → slice_get ws n ≡ Some w
     → after (noticed (Some kind) n vs) ws ≡ slice_set ws n (operate kind w (element_of kind vs))

@@ -37,10 +37,6 @@ pub next_fails : (st : Stop) (f : Fault) (env : Env) (now : Summary) (o : Result
 next_fails (stop.Fault e) f env now o h p = p ∙ ap (λ x. (Err x, now)) (sym h)
 next_fails stop.NoMemory f env now o h p = tt
 
-pub does_fails : (st : Stop) (f : Fault) (now : Summary) (o : Result (Unit {0}) Fault × Summary) → HasFault st f → o ≡ (Err f, now) → Does (Err st) now o
-does_fails (stop.Fault e) f now o h p = p ∙ ap (λ x. (Err x, now)) (sym h)
-does_fails stop.NoMemory f now o h p = tt
-
 module _ (program : Tree) where
   -- a value, and the rest
   pub value_goes : {B : Type 0} (tables : Tables) (env : Env) (e : Term) (site : Site) (now : Summary) (k : ℤ → Run B) (v : ℤ) → (value tables env e).answer ≡ Ok v → results program (at site (value tables env e) >>= k) now ≡ results program (k v) now
@@ -222,11 +218,6 @@ module _ (program : Tree) where
     pub turns_fail : (count i : ℕ) (st : Stop) (now later : Summary) (o : Result (Unit {0}) Fault × Summary) → i < count → o ≡ results program (turns program tables enters job (count - i) i) now → Does (Err st) later (results program (turn tables enters job i) now) → Does (Err st) later o
     turns_fail count i (stop.Fault e) now later o lt p h = p ∙ turns_left count i now lt ∙ ap (λ r. next program r (λ _. turns program tables enters job (count - (i + 1)) (i + 1))) h
     turns_fail count i stop.NoMemory now later o lt p h = tt
-
-    pub turns_end : (count i : ℕ) (now : Summary) (o : Result (Unit {0}) Fault × Summary) → (i < count → ⊥) → o ≡ results program (turns program tables enters job (count - i) i) now → o ≡ (Ok tt, now)
-    turns_end count i now o ge p =
-        let z : count - i ≡ 0 = omega (arith, ge) in
-        p ∙ ap (λ n. results program (turns program tables enters job n i) now) z
 
     pub turn_troubled : (i : ℕ) (tr : Trouble) (st : Stop) (now : Summary) → EvaluatesAll (Err tr) (turn_values tables job i).answer → IsTrouble tr job.site.procedure job.site.statement st → through program (turn_values tables job i).log now ≡ now → Does (Err st) now (results program (turn tables enters job i) now)
     turn_troubled i (trouble.Fault kind) (stop.Fault e) now h f q =

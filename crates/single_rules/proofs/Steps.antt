@@ -1,5 +1,5 @@
 -- What is known, and lines, after one step more.
-use Rattle.std.proofs.Common.{◌≡◌, ℕ, true, false, List, [], ◌∷◌, ◌++◌, slice_get, refl, ap, sym, ◌∙◌, append_assoc, append-nil}
+use Rattle.std.proofs.Common.{◌≡◌, ℕ, false, List, [], ◌∷◌, ◌++◌, slice_get, ap, sym, ◌∙◌, append_assoc, append-nil}
 use Rattle.meaning.specs.declared.tree.Block.{Block}
 use Rattle.meaning.specs.TreeView.{block_lines, statement_lines}
 use Rattle.linked_program.specs.declared.knowledge.Moment.{Moment}
@@ -18,6 +18,3 @@ with_names scope ks = record { names = ks; synced = scope.synced; spawned = scop
 -- a variable that wasn't known is known in the loop's arguments alone
 pub ended_again : (now : Moment) (scope : Scope) (x : ℕ) → is_known (slice_get scope.names x) ≡ false → told (bound now false scope x) x Ended ≡ looped scope x
 ended_again now scope x e = rw e (ap (λ ks. with_names scope ks) (slice_set_twice scope.names x (Known now false) Ended))
-
-pub known_still : (now : Moment) (scope : Scope) (x : ℕ) → is_known (slice_get scope.names x) ≡ true → bound now false scope x ≡ looped scope x
-known_still now scope x e = rw e refl

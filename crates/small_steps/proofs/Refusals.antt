@@ -1,5 +1,5 @@
 -- What a strand is where memory was refused: all is as it was but for the values of the two topmost layers.
-use Rattle.std.proofs.Common.{◌≡◌, ℕ, ◌+◌, ◌-◌, Bool, false, ℤ, List, [], ◌∷◌, ◌++◌, length, take, Option, Result, Ok, Err, OnErr, refl, sym, ap, ◌∙◌, subst, arith}
+use Rattle.std.proofs.Common.{◌≡◌, ℕ, ◌+◌, ◌-◌, Bool, false, List, [], ◌∷◌, ◌++◌, length, take, Option, refl, sym, ap, ◌∙◌, subst, arith}
 use Rattle.std.proofs.Math.Seq.{take-append_seam}
 use Rattle.std.proofs.lemmas.List.{length-append}
 use Rattle.evaluation.specs.declared.note.Note.{Note}
@@ -8,7 +8,7 @@ use Rattle.positions.specs.declared.phase.Phase.TheVariants.{Entering, Running}
 use Rattle.positions.specs.Activations.{PlainActivation}
 use Rattle.positions.specs.Layers.{PlainLayer}
 use Rattle.positions.specs.Strands.{PlainStrand, shorter}
-use Rattle.positions.specs.Advance.{noted, pushed, with_arguments}
+use Rattle.positions.specs.Advance.{noted, pushed}
 use Rattle.small_steps.specs.Steps.{revalued, revalued_first, IsValued, took_back}
 use Rattle.layers.proofs.Kept.{first_kept}
 
@@ -16,30 +16,16 @@ lower_same : (ls : List PlainLayer) → ls ≡ revalued_first ls ls
 lower_same [] = refl
 lower_same (l ∷ ls) = refl
 
-pub valued_same : (s : PlainStrand) → IsValued s s
-valued_same s = ap (λ ls. record s { lower = ls }) (lower_same s.lower)
-
-pub unchanged_valued : (s t : PlainStrand) → t ≡ s → IsValued s t
-unchanged_valued s t e = rw e (valued_same s)
-
 -- the topmost layer's values alone
 pub top_valued : (s t : PlainStrand) → t ≡ record s { layer = revalued s.layer t.layer } → IsValued s t
 top_valued s t e =
     e ∙ ap (λ ls. record s { layer = revalued s.layer t.layer; lower = ls }) (lower_same s.lower ∙ ap (revalued_first s.lower) (sym (ap (λ (u : PlainStrand). u.lower) e)))
-
-pub on_err : {A E : Type 0} (P Q : Type 0) → (P → Q) → (r : Result A E) → OnErr r P → OnErr r Q
-on_err P Q f (Ok a) h = h
-on_err P Q f (Err e) h = f h
 
 -- what was read since is forgotten
 pub forgotten_valued : (s n : PlainStrand) (ns : List Note) → IsValued (noted ns s) n → IsValued s (record n { layer = record n.layer { notes = take (length s.layer.notes) n.layer.notes } })
 forgotten_valued s n ns e =
     ap (λ (u : PlainStrand). record u { layer = record u.layer { notes = take (length s.layer.notes) u.layer.notes } }) e
     ∙ ap (λ ms. record s { layer = record s.layer { worths = n.layer.worths; notes = ms }; lower = revalued_first s.lower n.lower }) (first_kept s.layer.keeps s.layer.notes ns)
-
--- the arguments are those of before again
-pub arguments_back : (s n : PlainStrand) (vs : List ℤ) → IsValued (with_arguments vs s) n → IsValued s (with_arguments s.arguments n)
-arguments_back s n vs e = ap (with_arguments s.arguments) e
 
 pub path_back : (xs : List ℕ) (x : ℕ) → shorter (xs ++ x ∷ []) ≡ xs
 path_back xs x =

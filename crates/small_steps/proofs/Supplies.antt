@@ -1,10 +1,9 @@
 -- Steps with a free kit and without, and the kits that they take and give back.
 use Rattle.std.proofs.Common.{◌≡◌, ℕ, suc, ◌<◌, ◌≤◌, Bool, true, false, List, [], ◌∷◌, length, Result, Ok, Err, OnOk, refl, ap, sym, ◌∙◌, ◌+◌, ◌⊎◌, inl, inr, arith}
 use Rattle.monoid_laws.specs.declared.Kind.{Kind}
-use Rattle.record_theory.specs.Record.{PlainRecord}
 use Rattle.positions.specs.Layers.{PlainLayer, below_top}
 use Rattle.positions.specs.Tallies.{PlainOpened, is_own}
-use Rattle.small_steps.specs.Steps.{HoldsBy, IsSupplied, KeepsKits}
+use Rattle.small_steps.specs.Steps.{HoldsBy, KeepsKits}
 
 module _ (lacks none : Type 0) where
   -- a step that asks for no kit
@@ -26,10 +25,6 @@ module _ {S : Type 0} (fits gives : List Kind → S → Type 0) (free total : S 
   -- no kit was taken or given back
   pub kits_stay : (before after : List PlainLayer) → ((k : List Kind) → gives k kits → k ≡ kinds) → after ≡ before → KeepsKits fits gives free total kinds kits kits before after
   kits_stay before after given e = record { count = λ room. ap (λ ls. length ls + free kits) e; all = refl; fitting = λ k h. h; given = given }
-
-  pub supplied_as : (records : List PlainRecord) (topmost topmost' : List Kind) (lower lower' : List PlainLayer) → topmost' ≡ topmost → lower' ≡ lower
-      → IsSupplied fits gives free total kinds kits records topmost lower → IsSupplied fits gives free total kinds kits records topmost' lower'
-  supplied_as records topmost topmost' lower lower' e f h = rw e (rw f h)
 
 -- the layer of an open instance lies on another
 pub owned_lies : (opened : List PlainOpened) (lower : List PlainLayer) (n : ℕ) → is_own opened n ≡ true → length opened ≡ length lower → 0 < length lower

@@ -11,10 +11,6 @@ on_bool : (b : Bool) → (b ≡ true) ⊎ (b ≡ false)
 on_bool true = inl refl
 on_bool false = inr refl
 
-on_option : {A : Type 0} (o : Option A) → (o ≡ None) ⊎ ((x : A) × (o ≡ Some x))
-on_option None = inl refl
-on_option (Some x) = inr (x, refl)
-
 later : (b : Bool) (o : Option ℕ) (n : ℕ) → option_map (λ n. suc n) (for_some o (cond b (Some n) None) (λ k. Some k)) ≡ for_some (option_map (λ n. suc n) o) (cond b (Some (suc n)) None) (λ k. Some k)
 later b (Some k) n = refl
 later true None n = refl
@@ -51,18 +47,6 @@ module _ (places : Name → Option ℕ) (y : Name) (n : ℕ) (x : Name) where
               | inr f ↦ f
             ] in
             rw (f, q) (sym (same (places x)))
-      ]
-
-  pub index_old : is_some (places y) ≡ true → places x ≡ with_index places y n x
-  index_old u =
-      elim (on_option (places x)) [
-        | inr (k, e) ↦ rw e refl
-        | inl e ↦
-            let q : bytes_eq x y ≡ false = elim (on_bool (bytes_eq x y)) [
-              | inl t ↦ absurd (let g : places x ≡ places y = ap places ((bytes_eq-Decides x y).0 t) in let h : is_some (places x) ≡ true = ap (λ (o : Option ℕ). is_some o) g ∙ u in let none : Option ℕ = None in let k : is_some none ≡ true = ap (λ (o : Option ℕ). is_some o) (sym e) ∙ h in cc)
-              | inr f ↦ f
-            ] in
-            rw (e, q) refl
       ]
 
 pub copied_some : {A B : Type 0} (f : A → B) (o : Option A) → is_some (option_map f o) ≡ is_some o

@@ -3,20 +3,15 @@ use Rattle.std.proofs.Common.{◌≡◌, ℕ, suc, ◌<◌, ◌≤◌, Bool, tru
 use Rattle.std.proofs.lemmas.List.Elements.{All-nil, All-cons, All-head, All-tail}
 use Rattle.std.specs.Str.{bytes_eq}
 use Rattle.meaning.specs.Tree.{Name, Proc, reducer, procedure, Tree}
-use Rattle.meaning.specs.TreeView.{Lined}
 use Rattle.meaning.specs.Records.{Revised}
 use Rattle.meaning.specs.Statements.{procedure_of}
 use Rattle.meaning.specs.Edits.{is_same, revision_of, revised, most}
 use Rattle.linked_program.specs.Procedures.{procedures}
 use Rattle.linked_program.specs.Checked.{names_in, number_in}
-use Rattle.linked_program.specs.TableNames.{Columned}
 use Rattle.linked_program.proofs.Named.{revision_found}
-use Rattle.spawn_checker.specs.declared.violation.CheckError.{CheckError}
-use Rattle.spawn_checker.specs.declared.violation.CheckError.TheVariants.{NoMemory, Check, Exhausted}
-use Rattle.spawn_checker.specs.Refused.{IsRefused}
 use Rattle.single_rules.proofs.NumberThere.{number_there}
 use Rattle.single_rules.specs.Kept.{kept_revision}
-use Rattle.spawn_checker.specs.Renumbered.{IsRefusedAnew, AreKeptOrNew, behind}
+use Rattle.spawn_checker.specs.Renumbered.{AreKeptOrNew, behind}
 
 abbrev pub Numbered : Type 0
 Numbered = List (Name × ℕ) × ℕ
@@ -123,11 +118,6 @@ exhausted_at old p rest first n all is new full =
     omega (arith, more, here, full)
 
 -- ---- refusals
-
-pub refused_anew : (old : Revised) (tables : List Columned) (program : Tree) (lines : List Lined) (e : CheckError) → IsRefused tables program lines e → IsRefusedAnew old tables program lines e
-refused_anew old tables program lines NoMemory h = tt
-refused_anew old tables program lines (Check rule name line) h = h
-refused_anew old tables program lines Exhausted h = absurd h
 
 pub too_many : (n : ℕ) → most < n → nat_lt most n ≡ true
 too_many n h = lt-ltb most n h

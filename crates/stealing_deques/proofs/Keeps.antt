@@ -8,7 +8,7 @@ use Rattle.crossbeam_deque.proofs.Lists.{at_set, at_snoc}
 use Rattle.stealing_deques.specs.declared.entry.Spot.{Spot}
 use Rattle.stealing_deques.specs.declared.entry.PlainEntry.{PlainEntry}
 use Rattle.stealing_deques.specs.declared.entry.Knowledge.{Knowledge}
-use Rattle.stealing_deques.specs.Order.{times, count_held, once_below, GoesOn, IsChained, EndsAt, IsBoundTo, PlacesRise, AreSeen, AreCounted, FitsOwner, FitsThief, ComeBefore, turned, IsInOrder, knowing, after_push, after_pop, after_steal, IfOne}
+use Rattle.stealing_deques.specs.Order.{times, count_held, once_below, GoesOn, IsChained, EndsAt, IsBoundTo, PlacesRise, AreSeen, FitsOwner, FitsThief, ComeBefore, turned, IsInOrder, knowing, after_push, after_pop, after_steal, IfOne}
 
 at_end : (l : List Knowledge) (a b : Knowledge) (j : ℕ) → get_elem? l j ≢ some b → get_elem? (l ++ a ∷ []) j ≡ some b → j ≡ length l
 at_end [] a b zero n e = refl
@@ -273,21 +273,3 @@ learns port v may items views h at =
         subst (λ (m : ℕ). ComeBefore m (turned items h.4)) (sym o.1) h.7,
       ),
     )
-
--- what one with both ends sees
-pub counts : (port : ℕ) (v : Knowledge) → v.owns ≡ true → v.steals ≡ true → Learns IsInOrder port v (AreCounted v)
-counts port v may both items views h at =
-    let o = (h.8 port v at).0 may in
-    let t = (h.8 port v at).1 both in (
-      (λ x.
-          subst (λ (p : List ℕ). (times x p + count_held x v.stolen) + count_held x items ≡ once_below x v.pushed) (sym o.2)
-          (subst (λ (s : List PlainEntry). (times x h.3 + count_held x s) + count_held x items ≡ once_below x v.pushed) (sym t.1)
-          (subst (λ (m : ℕ). (times x h.3 + count_held x h.4) + count_held x items ≡ once_below x m) (sym o.1) (h.5 x)))),
-      omega (arith, h.6, o.1, ap (λ (l : List ℕ). length l) o.2, ap (λ (l : List PlainEntry). length l) t.1),
-    )
-
--- where as many were taken as were pushed, none is held
-pub taken_once : (v : Knowledge) (items : List PlainEntry) → AreCounted v items → length v.popped + length v.stolen ≡ v.pushed
-    → (x : ℕ) → times x v.popped + count_held x v.stolen ≡ once_below x v.pushed
-taken_once v [] h all x = omega (arith, h.0 x)
-taken_once v (c ∷ cs) h all x = absurd (omega (arith, h.1, all))

@@ -4,7 +4,7 @@ use Rattle.std.proofs.lemmas.List.{map-append}
 use Rattle.crossbeam_deque.specs.Tasks.{Pushes, Takes, Pops, Forks, Merges, Admits, Learns}
 use Rattle.stealing_deques.specs.declared.entry.PlainEntry.{PlainEntry}
 use Rattle.stealing_deques.specs.declared.entry.Knowledge.{Knowledge}
-use Rattle.stealing_deques.specs.Order.{GoesOn, IsBoundTo, ComeBefore, IsInOrder, AreSeen, AreCounted, IfOne, knowing, owning, stealing, after_push, after_pop, after_steal}
+use Rattle.stealing_deques.specs.Order.{GoesOn, IsBoundTo, ComeBefore, IsInOrder, AreSeen, IfOne, knowing, owning, stealing, after_push, after_pop, after_steal}
 use Rattle.stealing_deques.proofs.Keeps as plain
 
 module _ {E : Type 0} (f : E → PlainEntry) where
@@ -41,6 +41,3 @@ module _ {E : Type 0} (f : E → PlainEntry) where
 
   pub learns : (port : ℕ) (v : Knowledge) → v.owns ≡ true → Learns Rule port v (λ items. AreSeen v (map f items))
   learns port v may items views h at = plain.learns port v may (map f items) views h at
-
-  pub counts : (port : ℕ) (v : Knowledge) → v.owns ≡ true → v.steals ≡ true → Learns Rule port v (λ items. AreCounted v (map f items))
-  counts port v may both items views h at = plain.counts port v may both (map f items) views h at

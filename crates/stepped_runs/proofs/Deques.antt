@@ -2,7 +2,6 @@
 use Rattle.std.proofs.Common.{◌≡◌, inl, inr, ℕ, zero, suc, ◌+◌, Bool, true, false, List, [], ◌∷◌, ◌++◌, length, map, Option, Some, None, refl, sym, ◌∙◌, ap, subst, arith}
 use Rattle.std.specs.Prelude.{ℤ}
 use Rattle.std.proofs.lemmas.List.{length-append}
-use Rattle.meaning.specs.Tree.{Tree}
 use Rattle.meaning.specs.Outcome.{Place, Fault}
 use Rattle.meaning.specs.Trail.{child_of, sight_of}
 use Rattle.meaning.specs.Tallies.{valid_record}
@@ -64,9 +63,6 @@ no_child : (m : Place) (k : ℕ) → [] ≡ m ++ k ∷ [] → ⊥
 no_child m k e = let c : 0 ≡ length m + 1 = ap length e ∙ length-append m (k ∷ []) in omega arith
 
 module _ (setting : Setting) where
-  abbrev t : Tree
-  t = setting.program.tree
-
   no_parents : (path : Place) (under : List Parent) → AreParents setting path [] under → under ≡ []
   no_parents path [] h = refl
   no_parents path (p ∷ under) h = absurd h

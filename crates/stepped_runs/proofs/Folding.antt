@@ -3,7 +3,6 @@ use Rattle.std.proofs.Common.{◌≡◌, inl, inr, ℕ, ◌+◌, Bool, true, fal
 use Rattle.std.specs.Prelude.{ℤ, ◌-◌, length, if◌then◌else◌, ◌==◌}
 use Rattle.monoid_laws.specs.Worth.{Worth}
 use Rattle.monoid_laws.specs.Kinds.{operate_all}
-use Rattle.meaning.specs.Tree.{Tree}
 use Rattle.meaning.specs.Outcome.{Place}
 use Rattle.meaning.specs.SmallStep.{Start as NamedStart, root, behind, Phase as NamedPhase, entering, running, spawning, returning, leaving, broken, same_name}
 use Rattle.meaning.specs.LayeredStrand.{LayeredStrand}
@@ -105,9 +104,6 @@ begins_later Root ph path (behind m j) h b = absurd h
 begins_later (Behind d k) ph path m h b = tt
 
 module _ (setting : Setting) where
-  abbrev t : Tree
-  t = setting.program.tree
-
   abbrev pair_of : LayeredStrand → NamedPhase → LayeredStrand → NamedPhase → Option LayeredStrand
   pair_of = joined_pair setting.program setting.tables setting.memory
 

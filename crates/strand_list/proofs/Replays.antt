@@ -28,7 +28,3 @@ pub refuses : (steps : List BookStep) (n : ℕ) (s : BookStep) (b : Book) (e : R
     → (e ≡ error.NoMemory) ⊎ ((e ≡ error.BadStep n) × (stepped b (book_step s) ≡ None)) → Refuses (history steps) e
 refuses steps n s b e h at r (inl f) = subst (Refuses (history steps)) (sym f) tt
 refuses steps n s b e h at r (inr f) = subst (Refuses (history steps)) (sym f.0) (refused_at steps n s b h at r f.1)
-
-pub noted_more : (h : List BookStep) (s : BookStep) (b c : Book) → replayed (history h) ≡ Some b → stepped b (book_step s) ≡ Some c → replayed (history (h ++ s ∷ [])) ≡ Some c
-noted_more h s b c e f =
-    ap replayed (map-append book_step h (s ∷ [])) ∙ replayed_append (Some first_book) (history h) (book_step s ∷ []) ∙ ap (λ o. replayed_on o (book_step s ∷ [])) e ∙ ap (λ o. replayed_on o []) f

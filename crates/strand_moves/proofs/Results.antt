@@ -1,10 +1,6 @@
 -- What holds of a result where it is Ok.
 use Rattle.std.proofs.Common.{Result, Ok, Err, ◌⊎◌, inl}
-use Rattle.std.specs.Prelude.{IfOk, OnOk, OnErr}
-
-pub if_ok : {A E : Type 0} (P Q : A → Type 0) → ((a : A) → P a → Q a) → (r : Result A E) → IfOk r P → IfOk r Q
-if_ok P Q f (Ok a) h = f a h
-if_ok P Q f (Err e) h = h
+use Rattle.std.specs.Prelude.{OnOk, OnErr}
 
 pub on_ok : {A E : Type 0} (P Q : Type 0) → (P → Q) → (r : Result A E) → OnOk r P → OnOk r Q
 on_ok P Q f (Ok a) h = f h

@@ -44,9 +44,6 @@ fold_later zero (x ∷ y ∷ ls) (d ∷ ds) h i e = ap (λ b. cond b (Some (x.0,
 fold_later (suc k) (x ∷ ls) [] h i e = absurd (omega arith)
 fold_later (suc k) (x ∷ ls) (d ∷ ds) h i e = fold_later k ls ds (omega arith) (omega arith) e
 
-pub among_none : (ds : List PlainLaid) → fold_among [] ds ≡ None
-among_none ds = refl
-
 -- ---- the same of lists of the code, cut as a slice is
 
 pub cut : {A : Type 0} (xs : List A) (k n : ℕ) → length xs ≡ n → k < n → take (n - k) (drop k xs) ≡ drop k xs

@@ -124,12 +124,6 @@ module _ (s : PlainStrand) (k : Pushed) (since : k.since ≡ s.start) (place : k
       ∙ ap (λ name. spot name (numbers_of s.start)) (sym (under s.path k.task.below) ∙ ap (λ path. lowest_name (shorter path) k.task.below) (sym place))
       ∙ ap (λ start. spot (bottom_of k.task) (numbers_of start)) (sym since)
 
-  -- and the child is the one that it waits for
-  pub detached_at : spot_of (detached s) ≡ child_spot k
-  detached_at =
-      ap (λ name. spot name (numbers_of s.start)) (alone s.path [] refl ∙ sym place)
-      ∙ ap (λ start. spot k.task.place (numbers_of start)) (sym since)
-
 -- put back, it has it again
 pub attached_bound : (here : Option Spot) (s d t : PlainStrand) (k j : Pushed) → s.below ≡ k.task.top ∷ k.task.below → j ≡ k → d ≡ detached s → t ≡ attached j.task d → IsBoundTo here (spot_of s) → IsBoundTo here (spot_of t)
 attached_bound here s d t k j below same bare is =

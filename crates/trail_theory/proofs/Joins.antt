@@ -46,10 +46,6 @@ under_later program B C (p ∷ t) [] h u = u
 under_later program B C (p ∷ t) (E ∷ Es) h u =
     (record { waiting = u.0.waiting; orderly = u.0.orderly; slots = env_later B C p.frame.instance u.0.waiting h 0 p.frame.env E.env u.0.slots; doomed = doom_later C h u.0.doomed }, under_later program B C t Es h u.1)
 
--- the name of a child that is out waits
-wider_one : (y : ℕ) (W : List ℕ) (x : ℕ) → In x W → In x (y ∷ W)
-wider_one y W x i = inr i
-
 mark_at : (C : Log) (n : Place) (W : List ℕ) (j : ℕ) (o : Option ℤ) (y : ℕ) (slot : (x : ℕ) → x ≡ y → SlotFits C n (y ∷ W) x (waits j) o) (k : ℕ) (env : List Slot) (E : Env) (x : ℕ) → k + x ≡ y → EnvFits C n W k env E → EnvFits C n (y ∷ W) k (slice_set env x (waits j)) (slice_set E x o)
 mark_at C n W j o y slot k [] [] x e h = tt
 mark_at C n W j o y slot k [] (q ∷ E) x e h = absurd h

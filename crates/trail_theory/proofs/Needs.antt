@@ -42,9 +42,6 @@ pub record IsGoal (program : Tree) (Goal : Out Fault ℤ → Trace → Type 0) :
   pub overs : (n : Place) (v : ℤ) → Goal (record { log = []; answer = Ok v }) (over n None v)
 
 module _ (program : Tree) where
-  pub keys_none : SameKeys program [] []
-  keys_none = record { executed_are = refl; reused_are = refl }
-
   stopped_keys : (log : Log) (k : Fault) → Every Told log → SameKeys program log (before_fault (log ++ Faults k ∷ []))
   stopped_keys log k t = subst (SameKeys program log) (sym (before_append log (Faults k ∷ []) (told_none log t) ∙ append-nil log)) (told_keys program log t)
 

@@ -6,7 +6,7 @@ use Rattle.meaning.specs.Outcome.{Log, Accumulators, Place, Reads, Enters, Updat
 use Rattle.meaning.specs.Values.{Env}
 use Rattle.meaning.specs.Statements.{proc_of, fresh}
 use Rattle.meaning.specs.Elision.{depth_limit}
-use Rattle.meaning.specs.Trail.{Look, answers, within, mark, opening, inner, run_inside, runner, run, trail_at}
+use Rattle.meaning.specs.Trail.{Look, answers, within, mark, opening, inner, run_inside, runner, run}
 use Rattle.meaning.specs.SmallStep.{slot, instance, Phase, entering, running, spawning, returning, leaving, broken, Parent, first_todo, opened, with_layer, Lookup, look_of}
 use Rattle.meaning.specs.Layers.{ahead_of_entry}
 use Rattle.meaning.specs.Tallies.{Opened, Tally, executions, passed_all}
@@ -73,9 +73,6 @@ env_same B n W x (o ∷ E) (q ∷ F) h = λ i. slot_same B n W x o q h.0 i ∷ e
 module _ (program : Tree) (tables : Tables) (sight : Accumulators) (lookup : Lookup) where
   abbrev L : Look
   L = look_of lookup
-
-  abbrev T : Log
-  T = trail_at program tables sight L
 
   abbrev Fit : Log → List Opened → List Log → Type 0
   Fit B os ss = OpenFit program tables sight lookup B os ss

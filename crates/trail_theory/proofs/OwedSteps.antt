@@ -8,7 +8,6 @@ use Rattle.meaning.specs.SmallStep.{Start, root, behind, is_entry, Frame, Todo, 
 use Rattle.meaning.specs.Layers.{Notes, noted_top}
 use Rattle.meaning.specs.LayeredStrand.{LayeredStrand, advanced, advance_with, first_layered, inlined, detached, continuation, resumed, stolen, joined, settled_frame, settled_under}
 use Rattle.meaning.specs.RestOfRun.{lowest}
-use Rattle.meaning.specs.Schedules.{place_of_start}
 use Rattle.meaning.specs.Tallies.{Opened, Tally, no_tally, executions, opened_all, closed_by, tallied, tallies_joined}
 use Rattle.trail_theory.specs.Order.{Every}
 use Rattle.trail_theory.specs.TaskFits.{Stacked}
@@ -21,7 +20,7 @@ use Rattle.trail_theory.proofs.Joins.{same_name_true}
 use Rattle.trail_theory.proofs.Openings.{LayersKept}
 use Rattle.trail_theory.proofs.OpenFits.{passed_opened, opening_executes}
 use Rattle.trail_theory.proofs.TalliedSteps.{micro_layers}
-use Rattle.trail_theory.proofs.OwedLayers.{over_itself, over_parent, over_not_above, every_join, every_over, recorded_over, under_over, lowest_over, recorded_in_append, parents_append, any_unbroken, closes_top}
+use Rattle.trail_theory.proofs.OwedLayers.{over_itself, over_not_above, every_join, every_over, recorded_over, under_over, lowest_over, recorded_in_append, parents_append, any_unbroken, closes_top}
 
 pub unbroken_by : (ph : Phase) {A B : Type 0} → (A → B) → Unbroken ph A → Unbroken ph B
 unbroken_by (entering child) f h = f h
@@ -41,17 +40,10 @@ unbroken_both (broken k) A B h q = tt
 
 -- ---- what is owed to the right
 
-pub precede_lowest : (m : Start) (n : Place) (names : List Place) → n ≡ place_of_start m → Precede m names → Every (IsOver n) names
-precede_lowest root n names e h = rw h tt
-precede_lowest (behind m k) n names e h = every_over n m names (over_parent n m k e) h
-
 -- ---- moves without a step
 
 pub owes_first : (program : Tree) → OwesLayers (first_layered program) [] no_tally [] []
 owes_first program = record { balance = refl; precede = refl }
-
-pub owes_broken : (s : LayeredStrand) (ks : List Continuation) (y : Tally) (k : _) (left right : List Place) → s.phase ≡ broken k → Precede s.start left → OwesLayers s ks y left right
-owes_broken s ks y k left right e p = record { balance = subst (λ ph. Unbroken ph (recorded_of s ks ++ right ≡ opened_names y.opened ++ left)) (sym e) tt; precede = p }
 
 module _ (program : Tree) (s : LayeredStrand) (ks : List Continuation) (y : Tally) (left right : List Place) where
   at_phase : (ph : Phase) → s.phase ≡ ph → OwesLayers s ks y left right → Unbroken ph (recorded_in s.frame ph (s.under ++ parents_behind ks) ++ right ≡ opened_names y.opened ++ left)

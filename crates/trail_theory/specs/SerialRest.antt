@@ -27,10 +27,6 @@ module _ (program : Tree) (tables : Tables) (sight : Accumulators) (look : Look)
   abbrev pub finished_by : Place → Trace → (Outcome → Trace) → Trace
   finished_by n r next = led (r.events ++ Leaves n r.outcome ∷ []) (next r.outcome)
 
-  -- a child's whole run
-  abbrev pub child_run : ℕ → Child → Place → Trace
-  child_run left child n = finished_by n (child_inside left child n) brief
-
   abbrev pub todo_walk : Frame → Todo → Env → ℕ → Option Fault → Trace
   todo_walk fr (blocks bs) env c doom = blocks_walk program tables sight (runner program tables sight fr.left look) fr.left fr.instance fr.here bs env c doom
   todo_walk fr (halves k job count i) env c doom =

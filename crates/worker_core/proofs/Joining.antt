@@ -8,30 +8,11 @@ use Rattle.positions.specs.declared.phase.Phase.TheVariants as phase
 use Rattle.positions.specs.Layers.{PlainLayer}
 use Rattle.positions.specs.Strands.{PlainStrand}
 use Rattle.positions.specs.Moves.{joined_at, joined_after}
-use Rattle.strand_moves.specs.Joins.{IsDone}
 use Rattle.stepped_runs.specs.Pieces.{PlainPiece, may_join_at, may_fold, folded}
 use Rattle.stepped_runs.specs.Stands.{valued}
 use Rattle.stepped_runs.specs.Layered.{HasOneLayer, HasOneLayerAs}
 use Rattle.worker_core.specs.Moves.{IsFit}
 use Rattle.worker_core.specs.Strands.{layers_of}
-
-may_done : (ph : Phase) (l r : PlainPiece) → may_join_at ph l r ≡ true → IsDone ph
-may_done phase.Entering l r e = absurd cc
-may_done phase.Running l r e = absurd cc
-may_done phase.AtSpawn l r e = absurd cc
-may_done (phase.Returning v) l r e = absurd cc
-may_done (phase.Leaving v) l r e = tt
-may_done (phase.Broken f) l r e = tt
-
-last_true : (a b c : Bool) → (a && b && c) ≡ true → c ≡ true
-last_true true true c e = e
-last_true true false c e = absurd cc
-last_true false true c e = absurd cc
-last_true false false c e = absurd cc
-
--- the left one is done
-pub fold_done : (l r : PlainPiece) → may_fold l r ≡ true → IsDone l.strand.phase
-fold_done l r e = may_done l.strand.phase l r (last_true (done l.state) (waits r.state) (may_join_at l.strand.phase l r) e)
 
 abbrev SameLayers : PlainStrand → PlainStrand → Type 0
 SameLayers s t = (t.layer.kinds ≡ s.layer.kinds) × (t.lower ≡ s.lower)
