@@ -5,3 +5,4 @@ pub mod Outcomes
 pub mod HalfSettled
 pub mod Kept
 pub mod Own
+pub mod Amid

@@ -46,8 +46,8 @@ module _ (setting : Setting) (l : Loop) (p : ℕ) (slots : List Slot) (left : �
   clear_then n y those s clear path long =
       ((clear path long).0, subst (λ (os : List PlainOpened). is_own os (length path) ≡ false) (sym (opened_same n y those)) (clear path long).1)
 
-pub clear_amid : (d : ℕ) (a : PlainActivation) (x : Gathered) (s : PlainStrand) → IsClear (gathering x s) → IsAmid s
-clear_amid x s clear n ns = (clear_home d a x.layer (gathering x s) clear).entry number
+pub clear_amid : (x : Gathered) (s : PlainStrand) → IsClear (gathering x s) → IsAmid s
+clear_amid x s clear n ns = (clear_home (gathering x s) clear).entry n ns
 
 -- those of one instance
 pub recorded_turns : (setting : Setting) (l : Loop) (h : Share) (a : PlainActivation) (x : Gathered) (n : ℕ) (y : Gathered) → AreRecorded setting l a.procedure a.slots a.left h.first x n y → a.work ≡ Turns l h → n ≤ h.count

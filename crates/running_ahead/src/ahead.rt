@@ -41,7 +41,7 @@ pub fn run_ahead<V: View, S: Spawning>(
     ensures ahead { IsAhead (lent setting.entry) machine.old machine.new }
     ensures same { spawning.new ≡ spawning.old }
 {
-    machine.spares.make_nest(alloc);
+    make_nest(machine, alloc);
     if leaves_for_memo(machine, setting) {
         return;
     }
@@ -49,6 +49,14 @@ pub fn run_ahead<V: View, S: Spawning>(
         return;
     }
     run_on(machine, alloc, setting, spawning);
+}
+
+/// Has instances ready for those that are called beside the strand.
+#[inline(always)]
+fn make_nest<V: View>(machine: &mut Machine<V>, alloc: Global)
+    ensures same { machine.new ≡ machine.old }
+{
+    machine.spares.make_nest(alloc);
 }
 
 /// The statements of an instance with a layer of its own, where that comes next; whether it does them all by itself, so that its

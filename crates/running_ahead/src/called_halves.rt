@@ -246,6 +246,7 @@ pub fn copies(
 ) -> Option<Vec<Vec<Slot>>>
     ensures many { IfSome result (λ xs. length xs.items ≡ levels) }
     ensures copies { IfSome result (λ xs. All (λ v. v.items ≡ top.now.slots) xs.items) }
+    ensures nest { spares.new.nest ≡ spares.old.nest }
 {
     let Ok(mut copies) = Vec::with_capacity(alloc, levels) else {
         return None;

@@ -1,4 +1,4 @@
-use Rattle.std.proofs.Common.{rules, ◌≡◌, ℤ, to_z, of_z, w64, Some, List, reverse, refl, sym, ap, ◌∙◌, subst}
+use Rattle.std.proofs.Common.{rules, ◌≡◌, ℤ, to_z, of_z, w64, Some, None, List, reverse, refl, sym, ap, ◌∙◌, subst}
 use Rattle.positions.specs.declared.phase.Phase.{Phase}
 use Rattle.positions.specs.declared.phase.Phase.TheVariants.{Running, Returning}
 use Rattle.positions.specs.Activations.{PlainActivation}
@@ -7,7 +7,7 @@ use Rattle.activations.specs.Given.{lent}
 use Rattle.own_statements.specs.Paths.{MayPass, ComesTo, StopsBy, stacked, topped}
 use Rattle.running_ahead.specs.Ahead.{IsAhead}
 use Rattle.running_ahead.specs.Chains.{under}
-use Rattle.running_ahead.proofs.Paths.{come_ahead, stop_ahead, same_parts}
+use Rattle.running_ahead.proofs.Paths.{ahead_here, come_ahead, stop_ahead, same_parts}
 use Rattle.running_ahead.proofs.ahead.statements_ahead.Goals as goal
 
 pub returns-in-Gave-clause-ahead : goal.returns-in-Gave-clause-ahead
@@ -43,3 +43,25 @@ returns-in-Stopped-2-clause-ahead g c =
     let t = topped s.phase c.put_all.new.top c.run.new.layer (under c.put_all.new.path.items (reverse c.put_all.new.below.items) s) in
     let ends : t ≡ stacked more c.run.new.top ys c.run.new.layer s = ap (λ (f : Phase). topped f c.put_all.new.top c.run.new.layer (under c.put_all.new.path.items (reverse c.put_all.new.below.items) s)) running ∙ sym stacks in
     subst (λ (z : PlainStrand). IsAhead S z t) c.machine.view_is (stop_ahead S passes s more c.run.new.top ys c.run.new.layer t running may c.in-Stopped-2.ensures.ahead c.run.ensures.kinds ends)
+
+pub returns-then-not-has_room-clause-ahead : goal.returns-then-not-has_room-clause-ahead
+returns-then-not-has_room-clause-ahead g c =
+    let S = lent c.args.setting in
+    let s : PlainStrand = record { start = c.machine.inside.start; layer = c.machine.inside.layer; lower = reverse c.machine.inside.lower.items; path = c.machine.inside.path.items; top = c.machine.inside.top; below = reverse c.machine.inside.below.items; phase = c.machine.inside.phase; arguments = c.machine.inside.arguments.items; tally = c.machine.inside.tally } in
+    let items : c.has_room.new.below.items ≡ c.machine.inside.below.items = search rules in
+    let below : reverse c.has_room.new.below.items ≡ s.below = ap (λ (xs : List PlainActivation). reverse xs) items in
+    let ends = same_parts s s.layer _ _ _ _ _ _ _ _ c.has_room.ensures.path refl below refl in
+    subst (λ (z : PlainStrand). IsAhead S z _) c.machine.view_is (subst (λ (z : PlainStrand). IsAhead S s z) (sym ends) (ahead_here S s))
+
+pub returns-in-Stopped-clause-ahead : goal.returns-in-Stopped-clause-ahead
+returns-in-Stopped-clause-ahead g c =
+    let S = lent c.args.setting in
+    let s : PlainStrand = record { start = c.machine.inside.start; layer = c.machine.inside.layer; lower = reverse c.machine.inside.lower.items; path = c.machine.inside.path.items; top = c.machine.inside.top; below = reverse c.machine.inside.below.items; phase = c.machine.inside.phase; arguments = c.machine.inside.arguments.items; tally = c.machine.inside.tally } in
+    let passes = c.passes_syncs-passes.result in
+    let running : s.phase ≡ Running = ap (λ (z : PlainStrand). z.phase) c.machine.view_is ∙ c.requires.running in
+    let may : MayPass passes s = subst (MayPass passes) (sym c.machine.view_is) c.passes_syncs-passes.ensures.passes in
+    let items : c.has_room.new.below.items ≡ c.machine.inside.below.items = search rules in
+    let below : reverse c.has_room.new.below.items ≡ s.below = ap (λ (xs : List PlainActivation). reverse xs) items in
+    let t = record (topped s.phase c.run.new.top c.run.new.layer s) { path = c.has_room.new.path.items; below = reverse c.has_room.new.below.items } in
+    let ends : t ≡ topped Running c.run.new.top c.run.new.layer s = same_parts s c.run.new.layer _ _ _ _ _ _ _ _ c.has_room.ensures.path refl below running in
+    subst (λ (z : PlainStrand). IsAhead S z t) c.machine.view_is (come_ahead S passes None s c.run.new.top c.run.new.layer t running may c.in-Stopped.ensures.ahead.1 c.run.ensures.kinds ends)

@@ -52,3 +52,13 @@ returns c =
     record {
       stacked = λ m s e f. c.loop-place.invariant.stacked m s e f ∙ stacked_all c.args.more c.loop-place.place c.loop-place.top (drop c.loop-place.place c.args.spares.now.nest.above.items) m (under c.loop-place.path.items (reverse c.loop-place.below.items) s) all;
     }
+
+pub returns-then-len : goal.returns-then-len
+returns-then-len c =
+    let xs : List PlainActivation = c.args.spares.now.nest.above.items in
+    let past : length xs ≤ c.loop-place.place = search rules in
+    record {
+      stacked = λ m s e f.
+          c.loop-place.invariant.stacked m s e f
+          ∙ stacked_none (c.args.more - c.loop-place.place) c.loop-place.top (drop c.loop-place.place xs) m (under c.loop-place.path.items (reverse c.loop-place.below.items) s) (drop_past xs c.loop-place.place past);
+    }
