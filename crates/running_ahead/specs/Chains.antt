@@ -48,23 +48,23 @@ IsClear s = (path : List ℕ) → length s.path ≤ length path → (entry_by s.
 -- ---- what came of so many iterations
 
 -- those before it go back, and it has more to do
-pub record IsWithin (setting : Setting) (l : Loop) (p : ℕ) (slots : List Slot) (left : ℕ) (i n more : ℕ) (u : PlainLayer)
+pub record IsWithin (setting : Setting) (l : Loop) (p : ℕ) (slots : List Slot) (left : ℕ) (i n over : ℕ) (u : PlainLayer)
     (xs : List PlainActivation) (v : PlainLayer) : Type 0 where
   pub before : PlainLayer
   pub turns : AreTurns setting l p slots left i u n before
-  pub stay : IsStay setting l p slots left (i + n) before more xs v
+  pub stay : IsStay setting l p slots left (i + n) before over xs v
 
 -- all go back; or the first ones, and then nothing is done; or the first ones, and the next one stands above the loop's instance
 abbrev pub ChainsTo : Setting → Loop → PlainActivation → ℕ → ℕ → Chained → PlainLayer → List PlainActivation → PlainLayer → Type 0
 ChainsTo setting l a i most Whole u xs v = AreTurns setting l a.procedure a.slots a.left i u most v
 ChainsTo setting l a i most (Before n) u xs v = AreTurns setting l a.procedure a.slots a.left i u n v
-ChainsTo setting l a i most (Within n more) u xs v = IsWithin setting l a.procedure a.slots a.left i n more u xs v
+ChainsTo setting l a i most (Within n over) u xs v = IsWithin setting l a.procedure a.slots a.left i n over u xs v
 
 -- where not all go back, these are fewer, and at most so many stand above the next one
 abbrev pub IsFewer : ℕ → ℕ → Chained → Type 0
 IsFewer most above Whole = Unit {0}
 IsFewer most above (Before n) = n < most
-IsFewer most above (Within n more) = (n < most) × (more ≤ above)
+IsFewer most above (Within n over) = (n < most) × (over ≤ above)
 
 -- ---- halves that are put on the strand
 
