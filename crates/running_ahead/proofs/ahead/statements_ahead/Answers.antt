@@ -4,7 +4,7 @@ use Rattle.positions.specs.declared.phase.Phase.TheVariants.{Running, Returning}
 use Rattle.positions.specs.Activations.{PlainActivation}
 use Rattle.positions.specs.Strands.{PlainStrand}
 use Rattle.activations.specs.Given.{lent}
-use Rattle.own_statements.specs.Paths.{MayPass, ComesTo, StopsBy, stacked, topped}
+use Rattle.own_statements.specs.Paths.{MayPass, ComesTo, stacked, topped}
 use Rattle.running_ahead.specs.Ahead.{IsAhead}
 use Rattle.running_ahead.specs.Chains.{under}
 use Rattle.running_ahead.proofs.Paths.{ahead_here, come_ahead, stop_ahead, same_parts}

@@ -1,4 +1,4 @@
-use Rattle.std.proofs.Common.{rules, ◌≡◌, ◌∙◌, ◌+◌, ◌-◌, ◌==◌, ℕ, suc, Some, true, false, List, [], ◌∷◌, ◌++◌, length, map, reverse, refl, sym, ap, subst}
+use Rattle.std.proofs.Common.{rules, ◌≡◌, ◌∙◌, ◌+◌, ◌-◌, ◌==◌, ℕ, suc, Some, true, false, List, [], ◌∷◌, ◌++◌, map, reverse, refl, sym, ap, subst}
 use Rattle.meaning.specs.Elision.{depth_limit}
 use Rattle.linked_program.specs.CodeView.{expression, slots_of}
 use Rattle.evaluation.specs.declared.slot.Slot.TheVariants.{Has}

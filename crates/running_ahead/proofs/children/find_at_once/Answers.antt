@@ -1,12 +1,11 @@
-use Rattle.std.proofs.Common.{rules, ◌≡◌, ◌∙◌, ◌-◌, ◌==◌, ℕ, ℤ, Some, None, true, false, List, [], ◌∷◌, ◌++◌, length, map, reverse, refl, sym, ap, subst, to_z, of_z, w64}
+use Rattle.std.proofs.Common.{rules, ◌≡◌, ◌∙◌, ◌-◌, Some, false, [], length, map, reverse, refl, sym, ap, subst}
 use Rattle.meaning.specs.Elision.{depth_limit}
 use Rattle.linked_program.specs.CodeView.{expression, slots_of}
-use Rattle.evaluation.specs.declared.slot.Slot.{Slot}
 use Rattle.evaluation.specs.declared.slot.Slot.TheVariants.{Has}
 use Rattle.evaluation.specs.Values.{entry_at}
 use Rattle.positions.specs.declared.phase.Phase.TheVariants.{Running}
 use Rattle.positions.specs.declared.work.Work.TheVariants.{Block}
-use Rattle.positions.specs.Activations.{PlainActivation, bound, waiting}
+use Rattle.positions.specs.Activations.{bound, waiting}
 use Rattle.positions.specs.Layers.{PlainLayer, entering}
 use Rattle.positions.specs.Strands.{PlainStrand}
 use Rattle.positions.specs.Advance.{evaluated}

@@ -1,4 +1,4 @@
-use Rattle.std.proofs.Common.{rules, ◌≡◌, ◌∙◌, ◌+◌, ◌<◌, ◌≤◌, ℕ, true, false, List, length, reverse, refl, sym, ap, subst}
+use Rattle.std.proofs.Common.{rules, ◌≡◌, ◌+◌, ◌<◌, ◌≤◌, ℕ, true, false, List, length, reverse, sym, subst}
 use Rattle.positions.specs.Strands.{PlainStrand, entry_by}
 use Rattle.positions.specs.Tallies.{is_own}
 use Rattle.own_statements.specs.Paths.{HasRoomAbove}

@@ -1,9 +1,9 @@
-use Rattle.std.proofs.Common.{rules, ◌≡◌, ◌∙◌, ◌++◌, ◌∷◌, [], ◌<◌, ◌≤◌, ◌+◌, ◌-◌, ℕ, List, Some, drop, length, reverse, slice_get, refl, sym, ap, subst, arith}
+use Rattle.std.proofs.Common.{rules, ◌≡◌, ◌∙◌, ◌++◌, ◌∷◌, [], ◌<◌, ◌≤◌, ◌+◌, ◌-◌, ℕ, List, Some, drop, length, reverse, slice_get, refl, sym, ap, arith}
 use Rattle.std.proofs.lemmas.List.{reverse-append}
 use Rattle.positions.specs.Activations.{PlainActivation}
 use Rattle.own_statements.specs.Paths.{stacked}
 use Rattle.running_ahead.specs.Chains.{under}
-use Rattle.running_ahead.proofs.Putting.{drop_past, drop_same, stacked_all, stacked_next, stacked_none, stacked_under}
+use Rattle.running_ahead.proofs.Putting.{drop_past, stacked_all, stacked_next, stacked_none, stacked_under}
 use Rattle.running_ahead.proofs.children.put_all.Goals as goal
 
 pub loop-place-init : goal.loop-place-init

@@ -4,7 +4,6 @@ use Rattle.positions.specs.Activations.{PlainActivation, made}
 use Rattle.positions.specs.Advance.{left_of}
 use Rattle.positions.specs.declared.work.Work.TheVariants.{Halves}
 use Rattle.running_ahead.specs.Chains.{Reaches, reach}
-use Rattle.running_ahead.specs.Leaves.{gathering}
 use Rattle.running_ahead.specs.RecordedHalves.{Arrives}
 use Rattle.running_ahead.specs.declared.descent.Part.{Part}
 use Rattle.running_ahead.proofs.Stacked.{reach_more, reached_here, first_level, second_level}

@@ -1,4 +1,4 @@
-use Rattle.std.proofs.Common.{rules, ◌≡◌, ◌-◌, ◌+◌, ◌<◌, ◌≤◌, length, ◌+ℤ◌, ℕ, ℤ, pos, true, List, Some, None, map, slice_set, refl, sym, ap, ◌∙◌, subst, to_z, of_z, w64, add-one}
+use Rattle.std.proofs.Common.{rules, ◌≡◌, ◌-◌, ◌+◌, ◌<◌, ◌≤◌, length, ◌+ℤ◌, ℕ, ℤ, pos, true, List, Some, map, slice_set, refl, sym, ap, ◌∙◌, subst, to_z, of_z, w64, add-one}
 use Rattle.meaning.specs.Elision.{depth_limit}
 use Rattle.linked_program.specs.CodeView.{expression, slots_of}
 use Rattle.evaluation.specs.declared.slot.Slot.{Slot}
