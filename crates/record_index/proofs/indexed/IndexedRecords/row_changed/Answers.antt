@@ -7,8 +7,8 @@ use Rattle.record_index.proofs.indexed.IndexedRecords.row_changed.Goals as goal
 pub tell-requires : goal.tell-requires
 tell-requires c = record {
   rest =
-      all_rest c.args.tables.now.tables c.args.tables.now.was c.place-change.result c.lost.result.now c.won.result.now (c.place-change.ensures.table ∙ ap (λ b. b.table) c.before.ensures.was)
-      (c.place-change.ensures.row ∙ ap (λ b. b.row) c.before.ensures.was) (c.lost.ensures.lost ∙ c.compare.ensures.lost) (c.won.ensures.won ∙ c.compare.ensures.won);
+      all_rest c.args.tables.now.tables c.args.tables.now.was c.place-change.result c.lost.result.now c.won.result.now (c.place-change.ensures.table ∙ ap (λ b. b.table) c.before-2.ensures.was)
+      (c.place-change.ensures.row ∙ ap (λ b. b.row) c.before-2.ensures.was) (c.lost.ensures.lost ∙ c.compare.ensures.lost) (c.won.ensures.won ∙ c.compare.ensures.won);
 }
 
 pub returns-clause-indexed : goal.returns-clause-indexed
