@@ -5,8 +5,8 @@ use Rattle.own_statements.specs.Paths.{HasRoomAbove}
 use Rattle.running_ahead.proofs.OwnAhead.{room_by}
 use Rattle.running_ahead.proofs.children.has_room_above.Goals as goal
 
-pub returns : goal.returns
-returns g c =
+pub returns-then-begins_no_higher : goal.returns-then-begins_no_higher
+returns-then-begins_no_higher g c =
     let s : PlainStrand = record { start = c.machine.inside.start; layer = c.machine.inside.layer; lower = reverse c.machine.inside.lower.items; path = c.machine.inside.path.items; top = c.machine.inside.top; below = reverse c.machine.inside.below.items; phase = c.machine.inside.phase; arguments = c.machine.inside.arguments.items; tally = c.machine.inside.tally } in
     record {
       room = λ held.
@@ -16,3 +16,6 @@ returns g c =
           let owned : (n : ℕ) → length s.path + 1 ≤ n → is_own s.tally.opened n ≡ false = λ n longer. c.owns_from.ensures.none none n (search rules) in
           subst HasRoomAbove c.machine.view_is (room_by s begins owned);
     }
+
+pub returns-else-begins_no_higher : goal.returns-else-begins_no_higher
+returns-else-begins_no_higher g c = record { room = λ held. absurd cc }
