@@ -1,5 +1,5 @@
 -- Instances that are put above one another.
-use Rattle.std.proofs.Common.{◌≡◌, ◌∙◌, ◌++◌, ◌∷◌, [], ◌+◌, ◌-◌, ◌<◌, ◌≤◌, ℕ, zero, suc, List, Some, drop, length, slice_get, slice_set, refl, sym, ap, arith, add-one}
+use Rattle.std.proofs.Common.{◌≡◌, ◌∙◌, ◌++◌, ◌∷◌, [], ◌+◌, ◌-◌, ◌<◌, ◌≤◌, ℕ, zero, suc, min, List, Some, drop, length, slice_get, slice_set, refl, sym, ap, subst, arith, add-one}
 use Rattle.positions.specs.declared.phase.Phase.TheVariants.{Running}
 use Rattle.positions.specs.Activations.{PlainActivation}
 use Rattle.positions.specs.Layers.{PlainLayer}
@@ -17,7 +17,7 @@ stacked_none zero b xs m s e = refl
 stacked_none (suc k) b xs m s e = ap (λ ys. stacked (suc k) b ys m s) e
 
 -- or none are put
-pub stacked_all : (more place : ℕ) (b : PlainActivation) (xs : List PlainActivation) (m : PlainLayer) (s : PlainStrand) → more ≤ place → stacked (more - place) b xs m s ≡ topped Running b m s
+stacked_all : (more place : ℕ) (b : PlainActivation) (xs : List PlainActivation) (m : PlainLayer) (s : PlainStrand) → more ≤ place → stacked (more - place) b xs m s ≡ topped Running b m s
 stacked_all more place b xs m s all =
     let none : more - place ≡ 0 = omega (arith, all) in
     ap (λ k. stacked k b xs m s) none
@@ -34,6 +34,16 @@ drop_past [] zero h = refl
 drop_past [] (suc i) h = refl
 drop_past (x ∷ xs) zero h = absurd (let wrong : ⊥ = omega (arith, h) in wrong)
 drop_past (x ∷ xs) (suc i) h = drop_past xs i (omega (arith, h))
+
+-- or as many as there are
+pub stacked_done : (more place : ℕ) (b : PlainActivation) (xs : List PlainActivation) (m : PlainLayer) (s : PlainStrand) → min more (length xs) ≤ place → stacked (more - place) b (drop place xs) m s ≡ topped Running b m s
+stacked_done zero place b xs m s all = stacked_all zero place b (drop place xs) m s (omega arith)
+stacked_done (suc more) place b [] m s all = stacked_none (suc more - place) b (drop place []) m s (drop_past [] place (omega arith))
+stacked_done (suc more) zero b (x ∷ xs) m s all = absurd (let wrong : ⊥ = omega (arith, all) in wrong)
+stacked_done (suc more) (suc place) b (x ∷ xs) m s all =
+    let less : suc more - suc place ≡ more - place = omega arith in
+    let few : min more (length xs) ≤ place = omega (arith, all) in
+    ap (λ k. stacked k b (drop place xs) m s) less ∙ stacked_done more place b xs m s few
 
 behind_one : (xs : List PlainActivation) (i : ℕ) → drop (suc i) xs ≡ drop 1 (drop i xs)
 behind_one [] zero = refl
@@ -60,3 +70,10 @@ stacked_next more place b x xs m path below s less there =
 pub drop_same : (xs ys : List PlainActivation) (i : ℕ) (x : PlainActivation) → drop i ys ≡ drop i xs → drop (i + 1) (slice_set ys i x) ≡ drop (i + 1) xs
 drop_same xs ys i x e =
     ap (λ k. drop k (slice_set ys i x)) (add-one i) ∙ behind_set ys i x ∙ behind_one ys i ∙ ap (λ zs. drop 1 zs) e ∙ sym (behind_one xs i) ∙ sym (ap (λ k. drop k xs) (add-one i))
+
+-- what stands at a place, where what stands from it on is the same
+pub there_same : (xs ys : List PlainActivation) (i : ℕ) (x : PlainActivation) → drop i ys ≡ drop i xs → slice_get ys i ≡ Some x → slice_get xs i ≡ Some x
+there_same xs ys zero x e there = subst (λ zs. slice_get zs 0 ≡ Some x) e there
+there_same xs [] (suc i) x e there = absurd cc
+there_same [] (y ∷ ys) (suc i) x e there = absurd (let none : slice_get [] i ≡ Some x = there_same [] ys i x (e ∙ sym (drop_past [] i (omega arith))) there in cc)
+there_same (z ∷ xs) (y ∷ ys) (suc i) x e there = there_same xs ys i x e there

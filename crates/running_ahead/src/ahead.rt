@@ -7,8 +7,9 @@ ghost use Rattle.own_statements.specs.Paths.{phase_by, MayPass};
 ghost use Rattle.running_ahead.specs.Ahead.{IsAhead, OnBack};
 
 use crate::came::{Came, Gone};
-use crate::children::{enter_ahead, has_room_above, put_all, put_on_top};
+use crate::children::{enter_ahead, has_room_above, put_any, put_on_top};
 use crate::halves::{halves_ahead, second_ahead};
+use crate::nested::run_over;
 use crate::spawning::Spawning;
 use crate::turns::turns;
 use activations::activation::Activation;
@@ -16,7 +17,6 @@ use activations::code::{instruction, loop_code};
 use activations::setting::Setting;
 use layers::layer::DEEPEST;
 use own_statements::ran::Ended;
-use own_statements::runs::run;
 use positions::phase::Phase;
 use positions::work::{Loop, Share, Work};
 use small_steps::machine::Machine;
@@ -285,7 +285,7 @@ fn statements_ahead<V: View>(machine: &mut Machine<V>, setting: Setting<'_>) -> 
     if !has_room(&mut machine.path, &mut machine.below, most) {
         return None;
     }
-    match run(
+    match run_over(
         &mut machine.layer,
         setting,
         passes,
@@ -297,9 +297,8 @@ fn statements_ahead<V: View>(machine: &mut Machine<V>, setting: Setting<'_>) -> 
             machine.phase = Phase::Returning(value);
             Some(value)
         }
-        Ended::Stopped(0) => None,
         Ended::Stopped(more) => {
-            put_all(
+            put_any(
                 &mut machine.path,
                 &mut machine.below,
                 &mut machine.top,

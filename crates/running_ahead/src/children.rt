@@ -1,5 +1,6 @@
 //! Instances that are called, or spawned where they are called then: they stand on the strand only where they have more to do.
-ghost use Rattle.std.specs.Prelude.{◌≡◌, ◌+◌, ◌<◌, ◌≤◌, ◌++◌, ◌∷◌, ◌^◌, [], ℕ, suc, List, true, false, length, map, reverse, vec_len, vec_capacity};
+ghost use Rattle.std.specs.Prelude.{◌≡◌, ◌+◌, ◌<◌, ◌≤◌, ◌++◌, ◌∷◌, ◌^◌, [], ℕ, suc, List, Some, true, false, length, map, reverse};
+ghost use Rattle.std.specs.Prelude.{slice_get, slice_set, vec_len, vec_capacity};
 ghost use Rattle.linked_program.specs.CodeView.{expression as plain, slots_of, memo_of};
 ghost use Rattle.evaluation.specs.Values.{entry_at};
 ghost use Rattle.positions.specs.Layers.{PlainLayer};
@@ -13,6 +14,7 @@ ghost use Rattle.running_ahead.specs.Ahead.{GoesAhead, GoesAheadBy, CameBy, is_s
 ghost use Rattle.running_ahead.specs.Chains.{under};
 
 use crate::came::Came;
+use crate::nested::call_over;
 use activations::activation::{Activation, next_of};
 use activations::code::instructions;
 use activations::setting::Setting;
@@ -24,7 +26,7 @@ use meaning::tree::Way;
 use own_statements::filling::fills;
 use own_statements::ran::Ended;
 use own_statements::recursion::{Enters, Own, called, calls_itself};
-use own_statements::runs::{Callee as Begun, call};
+use own_statements::runs::Callee as Begun;
 use positions::phase::Phase;
 use positions::start::Start;
 use positions::work::{Position, Work};
@@ -329,12 +331,11 @@ fn child_ahead<V: View>(
         body: body.statements,
         left: left - 1,
     };
-    match call(
+    match call_over(
         &mut machine.layer,
         setting,
         begun,
-        &mut machine.spares.nest.child,
-        &mut machine.spares.nest.above,
+        &mut machine.spares.nest,
         &mut machine.numbers,
     ) {
         Ended::Gave(value) => {
@@ -380,7 +381,7 @@ pub(crate) fn put_on_top(
 
 /// Puts so many instances that were begun on top of one that waits, each of which was called by the one below it. There is room for them.
 #[inline(never)]
-pub(crate) fn put_all(
+fn put_all(
     path: &mut Vec<usize>,
     below: &mut Vec<Activation>,
     top: &mut Activation,
@@ -394,14 +395,45 @@ pub(crate) fn put_all(
         → stacked more top.old spares.old.nest.above.items m s
         ≡ topped Phase.Running top.new m (under path.new.items (reverse below.new.items) s) }
 {
-    for place in 0..more {
-        if place >= spares.nest.above.len() {
-            return;
-        }
+    let most = more.min(spares.nest.above.len());
+    for place in 0..most {
         let blank = spares.blank(alloc);
-        let next = mem::replace(&mut spares.nest.above[place], blank);
+        let next = take_at(&mut spares.nest.above, place, blank);
         put_over(path, below, top, next);
     }
+}
+
+/// Takes the instance at that place, and puts another one there.
+#[inline(always)]
+fn take_at(above: &mut Vec<Activation>, place: usize, blank: Activation) -> Activation
+    requires within { place < length above.old.items }
+    ensures there { slice_get above.old.items place ≡ Some result }
+    ensures left { above.new.items ≡ slice_set above.old.items place blank }
+    ensures long { length above.new.items ≡ length above.old.items }
+{
+    mem::replace(&mut above[place], blank)
+}
+
+/// Puts so many instances that were begun on top of one that waits, as `put_all` does. Mostly there are none.
+#[inline(always)]
+pub(crate) fn put_any(
+    path: &mut Vec<usize>,
+    below: &mut Vec<Activation>,
+    top: &mut Activation,
+    spares: &mut Spares,
+    alloc: Global,
+    more: usize,
+)
+    requires path_room { vec_len path.old + more ≤ vec_capacity path.old }
+    requires below_room { vec_len below.old + more ≤ vec_capacity below.old }
+    ensures stacked { (m : PlainLayer) (s : PlainStrand) → s.path ≡ path.old.items → s.below ≡ reverse below.old.items
+        → stacked more top.old spares.old.nest.above.items m s
+        ≡ topped Phase.Running top.new m (under path.new.items (reverse below.new.items) s) }
+{
+    if more == 0 {
+        return;
+    }
+    put_all(path, below, top, spares, alloc, more);
 }
 
 /// Puts an instance on top of the one that has called it and waits for it. There is room for both.
@@ -415,9 +447,11 @@ fn put_over(
     requires path_room { vec_len path.old < vec_capacity path.old }
     requires below_room { vec_len below.old < vec_capacity below.old }
     ensures path { path.new.items ≡ path.old.items ++ top.old.children ∷ [] }
+    ensures path_len { vec_len path.new ≡ vec_len path.old + 1 }
     ensures path_capacity { vec_capacity path.new ≡ vec_capacity path.old }
     ensures top { top.new ≡ next }
     ensures below { below.new.items ≡ below.old.items ++ top.old ∷ [] }
+    ensures below_len { vec_len below.new ≡ vec_len below.old + 1 }
     ensures below_capacity { vec_capacity below.new ≡ vec_capacity below.old }
 {
     path.push_reserved(top.children());

@@ -7,6 +7,7 @@ pub mod came;
 mod children;
 pub mod descent;
 pub mod halves;
+mod nested;
 pub mod plain;
 pub mod ready;
 pub mod spawning;

@@ -9,6 +9,7 @@ ghost use Rattle.running_ahead.specs.Ahead.{StaysBy, TurnsTo};
 ghost use Rattle.running_ahead.specs.Chains.{ChainsTo, IsFewer};
 
 use crate::came::{Chained, Gone};
+use crate::nested::call_over;
 use activations::activation::Activation;
 use activations::code::{LoopCode, instructions, loop_code};
 use activations::nest::Nest;
@@ -17,7 +18,7 @@ use activations::shares::{Turns, behind, number_of};
 use layers::layer::Layer;
 use own_statements::filling::{Iterations, fills_turn, is_counted};
 use own_statements::ran::Ended;
-use own_statements::runs::{Callee, call};
+use own_statements::runs::Callee;
 use positions::work::{Loop, Share, Work};
 use view_pool::View;
 
@@ -159,14 +160,7 @@ fn chain_by<V: View, const COUNTED: bool>(
         if !fills_turn(layer, &mut nest.child, top, iterations, number) {
             return Chained::Before(done);
         }
-        match call(
-            layer,
-            setting,
-            callee,
-            &mut nest.child,
-            &mut nest.above,
-            numbers,
-        ) {
+        match call_over(layer, setting, callee, nest, numbers) {
             Ended::Gave(_) => {}
             Ended::Stopped(more) => return Chained::Within(done, more),
         }

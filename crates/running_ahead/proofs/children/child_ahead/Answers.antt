@@ -1,4 +1,4 @@
-use Rattle.std.proofs.Common.{rules, ◌≡◌, ◌∙◌, ◌+◌, ◌-◌, ◌==◌, ℕ, suc, Some, true, false, List, [], ◌∷◌, ◌++◌, map, reverse, refl, sym, ap, subst}
+use Rattle.std.proofs.Common.{rules, ◌≡◌, ◌≤◌, arith, length, vec_len, vec_capacity, ◌∙◌, ◌+◌, ◌-◌, ◌==◌, ℕ, suc, Some, true, false, List, [], ◌∷◌, ◌++◌, map, reverse, refl, sym, ap, subst}
 use Rattle.meaning.specs.Elision.{depth_limit}
 use Rattle.linked_program.specs.CodeView.{expression, slots_of}
 use Rattle.evaluation.specs.declared.slot.Slot.TheVariants.{Has}
@@ -46,14 +46,14 @@ returns-in-Gave-clause-came g c n e =
     let may : MayPass true child = λ _. (entry, room_over (s.top.children + 1) s room child.top child.layer child.phase child.below) in
     let v = c.in-Gave.value in
     let own : owns_top child ≡ false = room.own (s.top.children + 1) [] in
-    let come : ComesTo S true (child_of f slots x) (layer_then S way into w f slots x) (Some v) c.call.new.child c.call.new.layer =
-    subst (λ (k : ℕ). ComesTo S true (made f slots (Block (first_of 0)) (k - 1)) (entering f (depth_limit - (k - 1)) c.fills.new.layer) (Some v) c.call.new.child c.call.new.layer) count c.in-Gave.ensures.ahead in
+    let come : ComesTo S true (child_of f slots x) (layer_then S way into w f slots x) (Some v) c.call_over.new.nest.child c.call_over.new.layer =
+    subst (λ (k : ℕ). ComesTo S true (made f slots (Block (first_of 0)) (k - 1)) (entering f (depth_limit - (k - 1)) c.fills.new.layer) (Some v) c.call_over.new.nest.child c.call_over.new.layer) count c.in-Gave.ensures.ahead in
     let path : c.reserve.new.self.items ≡ s.path = search rules in
     let top : c.receive.new.self ≡ bound into (Has v) (waiting (is_spawned way) into w s.top) = search rules in
     let items : c.reserve-else-is_err.new.self.items ≡ c.machine.inside.below.items = search rules in
     let below : reverse c.reserve-else-is_err.new.self.items ≡ s.below = ap (λ (xs : List PlainActivation). reverse xs) items in
     subst (goes _) c.machine.view_is (enter_ahead S n o way into w f slots s x _ filled.0 is
-    (child_returns S way into w f slots x n deep c.requires.plain c.call.new.child c.call.new.layer c.call.ensures.kinds v entry own _ may come (same_parts s c.call.new.layer _ _ _ _ _ _ _ _ path top below phase))) e
+    (child_returns S way into w f slots x n deep c.requires.plain c.call_over.new.nest.child c.call_over.new.layer c.call_over.ensures.kinds v entry own _ may come (same_parts s c.call_over.new.layer _ _ _ _ _ _ _ _ path top below phase))) e
 
 pub returns-in-Stopped-clause-came : goal.returns-in-Stopped-clause-came
 returns-in-Stopped-clause-came g c n e =
@@ -79,18 +79,32 @@ returns-in-Stopped-clause-came g c n e =
     let entry : is_entry child ≡ false = room.entry (s.top.children + 1) [] in
     let may : MayPass true child = λ _. (entry, room_over (s.top.children + 1) s room child.top child.layer child.phase child.below) in
     let more = c.in-Stopped.more in
-    let ys : List PlainActivation = c.call.new.above in
-    let stop : StopsBy S true (child_of f slots x) (layer_then S way into w f slots x) more c.call.new.child ys c.call.new.layer =
-    subst (λ (k : ℕ). StopsBy S true (made f slots (Block (first_of 0)) (k - 1)) (entering f (depth_limit - (k - 1)) c.fills.new.layer) more c.call.new.child ys c.call.new.layer) count c.in-Stopped.ensures.ahead in
+    let ys : List PlainActivation = c.call_over.new.nest.above.items in
+    let stop : StopsBy S true (child_of f slots x) (layer_then S way into w f slots x) more c.call_over.new.nest.child ys c.call_over.new.layer =
+    subst (λ (k : ℕ). StopsBy S true (made f slots (Block (first_of 0)) (k - 1)) (entering f (depth_limit - (k - 1)) c.fills.new.layer) more c.call_over.new.nest.child ys c.call_over.new.layer) count c.in-Stopped.ensures.ahead in
     let path : s.path ≡ c.reserve.new.self.items = search rules in
     let items : c.machine.inside.below.items ≡ c.reserve-else-is_err.new.self.items = search rules in
     let below : s.below ≡ reverse c.reserve-else-is_err.new.self.items = ap (λ (xs : List PlainActivation). reverse xs) items in
     let top : c.wait_at.new.self ≡ waiting (is_spawned way) into w s.top = search rules in
-    let stacks : stacked (suc more) c.wait_at.new.self (c.call.new.child ∷ ys) c.call.new.layer s ≡ topped Running c.put_on_top.new.top c.call.new.layer (under c.put_on_top.new.path.items (reverse c.put_on_top.new.below.items) s) =
-    c.put_on_top.ensures.stacked c.call.new.layer s path below in
-    let lands : topped Running c.put_on_top.new.top c.call.new.layer (under c.put_on_top.new.path.items (reverse c.put_on_top.new.below.items) s) ≡ stacked more c.call.new.child ys c.call.new.layer child =
-    sym stacks ∙ ap (λ (b : PlainActivation). stacked (suc more) b (c.call.new.child ∷ ys) c.call.new.layer s) top
-    ∙ stacked_same more c.call.new.child ys c.call.new.layer (record s { path = s.path ++ (s.top.children + 1) ∷ []; below = waiting (is_spawned way) into w s.top ∷ s.below }) child.top child.layer child.phase in
-    let ends = ap (λ (z : Phase). record (topped Running c.put_on_top.new.top c.call.new.layer (under c.put_on_top.new.path.items (reverse c.put_on_top.new.below.items) s)) { phase = z }) phase in
+    let stacks : stacked (suc more) c.wait_at.new.self (c.call_over.new.nest.child ∷ ys) c.call_over.new.layer s ≡ topped Running c.put_on_top.new.top c.call_over.new.layer (under c.put_on_top.new.path.items (reverse c.put_on_top.new.below.items) s) =
+    c.put_on_top.ensures.stacked c.call_over.new.layer s path below in
+    let lands : topped Running c.put_on_top.new.top c.call_over.new.layer (under c.put_on_top.new.path.items (reverse c.put_on_top.new.below.items) s) ≡ stacked more c.call_over.new.nest.child ys c.call_over.new.layer child =
+    sym stacks ∙ ap (λ (b : PlainActivation). stacked (suc more) b (c.call_over.new.nest.child ∷ ys) c.call_over.new.layer s) top
+    ∙ stacked_same more c.call_over.new.nest.child ys c.call_over.new.layer (record s { path = s.path ++ (s.top.children + 1) ∷ []; below = waiting (is_spawned way) into w s.top ∷ s.below }) child.top child.layer child.phase in
+    let ends = ap (λ (z : Phase). record (topped Running c.put_on_top.new.top c.call_over.new.layer (under c.put_on_top.new.path.items (reverse c.put_on_top.new.below.items) s)) { phase = z }) phase in
     subst (goes _) c.machine.view_is (enter_ahead S n o way into w f slots s x _ filled.0 is
-    (child_stays S way into w f slots x n deep c.requires.plain c.call.new.child c.call.new.layer c.call.ensures.kinds more ys _ may stop (ends ∙ lands))) e
+    (child_stays S way into w f slots x n deep c.requires.plain c.call_over.new.nest.child c.call_over.new.layer c.call_over.ensures.kinds more ys _ may stop (ends ∙ lands))) e
+
+pub put_on_top-requires-clause-path_room : goal.put_on_top-requires-clause-path_room
+put_on_top-requires-clause-path_room g c =
+    let few : c.in-Stopped.more ≤ length c.call_over.new.nest.above.items = c.in-Stopped.ensures.ahead.0 in
+    let long : length c.call_over.new.nest.above.items ≡ c.len.result = search rules in
+    let room : vec_len c.reserve.new.self + (c.len.result + 1) ≤ vec_capacity c.reserve.new.self = search rules in
+    omega (arith, few, long, room)
+
+pub put_on_top-requires-clause-below_room : goal.put_on_top-requires-clause-below_room
+put_on_top-requires-clause-below_room g c =
+    let few : c.in-Stopped.more ≤ length c.call_over.new.nest.above.items = c.in-Stopped.ensures.ahead.0 in
+    let long : length c.call_over.new.nest.above.items ≡ c.len.result = search rules in
+    let room : vec_len c.reserve-else-is_err.new.self + (c.len.result + 1) ≤ vec_capacity c.reserve-else-is_err.new.self = search rules in
+    omega (arith, few, long, room)

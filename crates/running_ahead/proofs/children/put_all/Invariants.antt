@@ -1,4 +1,4 @@
-use Rattle.std.proofs.Common.{◌≡◌, ◌+◌, ◌-◌, drop, length, reverse, vec_len, vec_capacity}
+use Rattle.std.proofs.Common.{◌≡◌, ◌+◌, ◌-◌, drop, length, min, reverse, vec_len, vec_capacity}
 use Rattle.positions.specs.Layers.{PlainLayer}
 use Rattle.positions.specs.Strands.{PlainStrand}
 use Rattle.own_statements.specs.Paths.{stacked}
@@ -7,6 +7,7 @@ use Rattle.running_ahead.proofs.children.put_all.Given as goal
 
 abbrev pub invariant-loop-place : goal.invariant-loop-place
 invariant-loop-place l = record {
+  most : l.most ≡ min l.more (length l.fn.spares.nest.above.items);
   path_len : vec_len l.path ≡ vec_len l.fn.path + l.place;
   below_len : vec_len l.below ≡ vec_len l.fn.below + l.place;
   path_capacity : vec_capacity l.path ≡ vec_capacity l.fn.path;

@@ -34,8 +34,8 @@ loop-done-preserved g c =
     let j : PlainLoop = loop_of c.args.code in
     let l = c.loop-done.layer in
     let m = c.fills_turn.new.layer in
-    let n = c.call.new.layer in
-    let child = c.fills_turn.new.child in
+    let n = c.call_over.new.layer in
+    let child : PlainActivation = c.fills_turn.new.child in
     let count : c.left.result ≡ first.left = c.left.ensures.left in
     let v = to_z w64 (of_z w64 c.number_of-number.result) in
     let share : c.behind.result ≡ behind d c.args.turns.share = c.behind.ensures.rest in
@@ -47,14 +47,14 @@ loop-done-preserved g c =
     subst (λ (xs : List Slot). Fills (entry_at S.tables (slice_set xs j.variable (Has (site.low +ℤ pos i))) (slots_of S.codes j.callee) (map expression j.arguments)) child.slots l m) slots
     (subst (λ (k : ℕ). Fills (entry_at S.tables (slice_set c.loop-done.top.slots j.variable (Has (site.low +ℤ pos i))) k (map expression j.arguments)) child.slots l m) size
     (subst (λ (u : ℤ). Fills (entry_at S.tables (slice_set c.loop-done.top.slots j.variable (Has u)) c.slots-size.result (map expression j.arguments)) child.slots l m) number (c.fills_turn.ensures.filled is_filled))) in
-    let came : ComesTo S true (made j.callee child.slots (Block (first_of 0)) (first.left - 1)) (entering j.callee (depth_limit - (first.left - 1)) m) (Some c.in-Gave.field-0) c.call.new.child n =
-    subst (λ (k : ℕ). ComesTo S true (made j.callee child.slots (Block (first_of 0)) (k - 1)) (entering j.callee (depth_limit - (k - 1)) m) (Some c.in-Gave.field-0) c.call.new.child n) count c.in-Gave.ensures.ahead in
-    let turn = is_turn S site j first.procedure first.slots first.left i l c.requires.found c.requires.plain c.requires.deep child.slots m n c.call.new.child filled c.call.ensures.kinds c.in-Gave.field-0 came in
+    let came : ComesTo S true (made j.callee child.slots (Block (first_of 0)) (first.left - 1)) (entering j.callee (depth_limit - (first.left - 1)) m) (Some c.in-Gave.field-0) c.call_over.new.nest.child n =
+    subst (λ (k : ℕ). ComesTo S true (made j.callee child.slots (Block (first_of 0)) (k - 1)) (entering j.callee (depth_limit - (k - 1)) m) (Some c.in-Gave.field-0) c.call_over.new.nest.child n) count c.in-Gave.ensures.ahead in
+    let turn = is_turn S site j first.procedure first.slots first.left i l c.requires.found c.requires.plain c.requires.deep child.slots m n c.call_over.new.nest.child filled c.call_over.ensures.kinds c.in-Gave.field-0 came in
     record {
       turns = subst (λ (k : ℕ). AreTurns S site first.procedure first.slots first.left c.args.turns.share.first c.args.layer.now k n) (sym (add-one d)) (more d l n c.loop-done.invariant.turns turn);
       top = c.fills_turn.ensures.top ∙ c.loop-done.invariant.top;
-      long = c.call.ensures.long ∙ c.loop-done.invariant.long;
-      kinds = c.call.ensures.kinds ∙ ap (λ (k : PlainLayer). k.kinds) filled.1 ∙ c.loop-done.invariant.kinds;
+      long = c.call_over.ensures.long ∙ c.loop-done.invariant.long;
+      kinds = c.call_over.ensures.kinds ∙ ap (λ (k : PlainLayer). k.kinds) filled.1 ∙ c.loop-done.invariant.kinds;
     }
 
 pub returns-in-Stopped : goal.returns-in-Stopped
@@ -67,8 +67,8 @@ returns-in-Stopped g c =
     let j : PlainLoop = loop_of c.args.code in
     let l = c.loop-done.layer in
     let m = c.fills_turn.new.layer in
-    let n = c.call.new.layer in
-    let child = c.fills_turn.new.child in
+    let n = c.call_over.new.layer in
+    let child : PlainActivation = c.fills_turn.new.child in
     let less : d < c.args.turns.share.count = search rules in
     let count : c.left.result ≡ first.left = c.left.ensures.left in
     let v = to_z w64 (of_z w64 c.number_of-number.result) in
@@ -82,11 +82,11 @@ returns-in-Stopped g c =
     (subst (λ (k : ℕ). Fills (entry_at S.tables (slice_set c.loop-done.top.slots j.variable (Has (site.low +ℤ pos i))) k (map expression j.arguments)) child.slots l m) size
     (subst (λ (u : ℤ). Fills (entry_at S.tables (slice_set c.loop-done.top.slots j.variable (Has u)) c.slots-size.result (map expression j.arguments)) child.slots l m) number (c.fills_turn.ensures.filled is_filled))) in
     let over = c.in-Stopped.more in
-    let ys : List PlainActivation = c.call.new.above in
-    let stop : StopsBy S true (made j.callee child.slots (Block (first_of 0)) (first.left - 1)) (entering j.callee (depth_limit - (first.left - 1)) m) over c.call.new.child ys n =
-    subst (λ (k : ℕ). StopsBy S true (made j.callee child.slots (Block (first_of 0)) (k - 1)) (entering j.callee (depth_limit - (k - 1)) m) over c.call.new.child ys n) count c.in-Stopped.ensures.ahead in
-    let long : length ys ≡ length c.args.nest.above.items = c.call.ensures.long ∙ c.loop-done.invariant.long in
-    let stay = is_stay S site j first.procedure first.slots first.left i l c.requires.found c.requires.plain c.requires.deep child.slots m n c.call.new.child filled c.call.ensures.kinds over ys stop in
+    let ys : List PlainActivation = c.call_over.new.nest.above.items in
+    let stop : StopsBy S true (made j.callee child.slots (Block (first_of 0)) (first.left - 1)) (entering j.callee (depth_limit - (first.left - 1)) m) over c.call_over.new.nest.child ys n =
+    subst (λ (k : ℕ). StopsBy S true (made j.callee child.slots (Block (first_of 0)) (k - 1)) (entering j.callee (depth_limit - (k - 1)) m) over c.call_over.new.nest.child ys n) count c.in-Stopped.ensures.ahead in
+    let long : length ys ≡ length c.args.nest.now.above.items = c.call_over.ensures.long ∙ c.loop-done.invariant.long in
+    let stay = is_stay S site j first.procedure first.slots first.left i l c.requires.found c.requires.plain c.requires.deep child.slots m n c.call_over.new.nest.child filled c.call_over.ensures.kinds over ys stop in
     record {
       came = record { before = l; turns = c.loop-done.invariant.turns; stay = stay };
       fewer = (less, subst (λ (k : ℕ). over ≤ k) long stop.0);
