@@ -89,6 +89,11 @@ impl Bell {
         false
     }
 
+    /// Whether somebody listens.
+    fn has_listeners(&self) -> bool {
+        self.listeners.load(Ordering::SeqCst) > 0
+    }
+
     /// Whether the run is over.
     fn has_ended(&self) -> bool {
         self.is_over.load(Ordering::SeqCst) != 0
@@ -121,15 +126,16 @@ impl Bell {
 }
 
 impl Listener<'_> {
-    /// Listens from then on, unless it does: before the first look, so that nothing that comes after it is missed. It has heard what rang
-    /// before: that would have it look twice.
+    /// Listens from then on, unless it does. What rang while nobody listened was found by the look before: that would have it look twice. Where
+    /// others listen a ring may be for them.
     pub(crate) fn listen(&self) {
         if self.listens.get() {
             return;
         }
         self.listens.set(true);
-        self.bell.listeners.fetch_add(1, Ordering::SeqCst);
-        self.bell.has_rung.store(false, Ordering::SeqCst);
+        if self.bell.listeners.fetch_add(1, Ordering::SeqCst) == 0 {
+            self.bell.has_rung.store(false, Ordering::SeqCst);
+        }
         self.bell.is_wanted.store(true, Ordering::SeqCst);
     }
 
@@ -137,21 +143,18 @@ impl Listener<'_> {
     /// it was folded there mostly aren't, and who looked would meet it under the lock again, where it lays the strand down soon.
     pub(crate) fn leave(&self, is_stolen: bool) {
         self.looks.set(0);
-        if self.others_listening() > 0 && is_stolen {
+        self.stop_listening();
+        if is_stolen && self.bell.has_listeners() {
             self.bell.sound();
         }
     }
 
-    /// Listens no longer; how many others do.
-    fn others_listening(&self) -> u64 {
-        if !self.listens.get() {
-            return self.bell.listeners.load(Ordering::SeqCst);
+    /// Listens no longer, where it does.
+    fn stop_listening(&self) {
+        if self.listens.get() {
+            self.listens.set(false);
+            self.bell.listeners.fetch_sub(1, Ordering::SeqCst);
         }
-        self.listens.set(false);
-        self.bell
-            .listeners
-            .fetch_sub(1, Ordering::SeqCst)
-            .saturating_sub(1)
     }
 
     /// Waits for the next look after one that was in vain.
@@ -179,7 +182,7 @@ impl Listener<'_> {
     /// Sleeps after so many naps, unless the run is over, and doesn't listen meanwhile.
     fn nap<R: Wait>(&self, rt: &R, naps: u64) {
         let micros = NAP.saturating_mul(naps.saturating_add(1).min(LONGEST));
-        let _ = self.others_listening();
+        self.stop_listening();
         self.bell.nappers.fetch_add(1, Ordering::SeqCst);
         self.bell
             .is_over

@@ -3,6 +3,7 @@ ghost use Rattle.std.specs.Prelude.{◌≡◌, ◌<◌, true, None};
 ghost use Rattle.worker_seats.specs.Spots.{spot_of};
 ghost use Rattle.threaded_driver.specs.Finds.{is_left, IsAt};
 
+use crate::bell::Listener;
 use crate::floor::Floor;
 use crate::found::Found;
 use crate::gate::Gate;
@@ -124,6 +125,23 @@ where
     seek(rt, floor, number, seat, next, gate)
 }
 
+/// Waits for the next look, where the last one was in vain. Who has laid a strand down has looked under the lock of that, and listens only from
+/// then on: to look once more at once would be in vain nearly always.
+fn wait_behind<J, V, R>(rt: &R, listener: &Listener<'_>, found: &Found<J, V>)
+where
+    J: Run + Stocked,
+    V: View,
+    R: Wait,
+{
+    match found {
+        Found::Nothing => {
+            listener.listen();
+            listener.wait(rt);
+        }
+        _ => {}
+    }
+}
+
 /// The life of a worker that listens for the bell where it has no strand, from what it has found on.
 fn seek<J, D, V, R, G>(
     rt: &R,
@@ -156,15 +174,14 @@ where
             Found::Nothing => {
                 listener.listen();
                 let next = floor.find_if_free(number, &mut seat, gate);
-                match &next {
-                    Found::Nothing => listener.wait(rt),
-                    _ => {}
-                }
+                wait_behind(rt, &listener, &next);
                 next
             }
             Found::Own(held) | Found::Folded(held) | Found::Stolen(held) => {
                 listener.leave(is_stolen);
-                floor.run_strand(rt, number, &mut seat, held, gate)
+                let next = floor.run_strand(rt, number, &mut seat, held, gate);
+                wait_behind(rt, &listener, &next);
+                next
             }
         };
     }

@@ -11,7 +11,7 @@ use worker_seats::kits::Stocked;
 use worker_seats::locking::locked;
 
 /// How often a worker tries to take the lock that can do without, about as long as a steal or a fold lasts under it.
-const LOOKS: u32 = 4;
+const TRIES: u32 = 4;
 
 impl<J: Run + Ledger + Stocked + Send, D: Deques, V: View> Floor<'_, J, D, V> {
     /// The desk, under its lock.
@@ -21,7 +21,7 @@ impl<J: Run + Ledger + Stocked + Send, D: Deques, V: View> Floor<'_, J, D, V> {
 
     /// The desk, under its lock, unless others have that.
     pub(crate) fn at_free_desk(&self) -> Option<MutexGuard<'_, Desk<J, D, V>>> {
-        for _ in 0..LOOKS {
+        for _ in 0..TRIES {
             if let Some(desk) = self.desk.try_lock() {
                 return Some(desk);
             }
