@@ -76,7 +76,7 @@ impl<J: Run + Ledger + Stocked + Send, D: Deques, V: View> Floor<'_, J, D, V> {
         self.is_alone.store(true, Ordering::Relaxed);
         let goes_on = self.go_on(rt, number, seat, &mut strand, &mut supply, gate);
         self.is_alone.store(false, Ordering::Relaxed);
-        seat.lend_lists(&mut strand);
+        seat.take_lists(&mut strand, false);
         if goes_on {
             let (share, _, kept) = supply.into_parts();
             return Found::Own(Held::with_kit(strand, share, kept));

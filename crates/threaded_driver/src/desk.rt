@@ -13,7 +13,7 @@ ghost use Rattle.worker_seats.specs.Over.{is_far, is_over, is_right, is_refusal,
 ghost use Rattle.worker_seats.specs.declared.failure.Failure.TheVariants as reason;
 
 use crate::found::Found;
-use numbered_runs::step::StrandLine;
+use numbered_runs::step::{State, StrandLine};
 use right_strands::laid::Piece;
 use right_strands::run::{Run, Scene};
 use right_strands::spare::Spare;
@@ -110,6 +110,26 @@ fn has_pair(lines: &[StrandLine]) -> bool
         is_behind_done = is_done(line.state);
     }
     false
+}
+
+/// Whether the strand behind the one that the worker holds waits for one that is done.
+fn waits_behind(lines: &[StrandLine], worker: usize) -> bool {
+    let mut is_next = false;
+    for line in lines {
+        if is_next {
+            return is_waiting(line.state);
+        }
+        is_next = is_held_by(line.state, worker);
+    }
+    false
+}
+
+/// Whether that worker holds a strand of that state.
+fn is_held_by(state: State, worker: usize) -> bool {
+    match state {
+        State::Held(holder) => holder == worker,
+        State::Ended | State::Stalled | State::Faulted | State::Finished => false,
+    }
 }
 
 /// Notes why a run gives up; the first reason stays.
@@ -229,6 +249,11 @@ impl<J: Run + Ledger + Stocked + Send, D: Deques, V: View> Desk<J, D, V> {
     /// Whether the run has given up.
     pub(crate) fn has_failed(&self) -> bool {
         self.failure.is_some()
+    }
+
+    /// Whether the strand behind the one that the worker holds waits for that one to be done.
+    pub(crate) fn has_waiting_behind(&self, worker: usize) -> bool {
+        waits_behind(self.table.book.strands(), worker)
     }
 
     /// Two boxes of folded strands, as far as there are any, for a worker that leaves and lets them go.

@@ -197,8 +197,21 @@ impl<J: Run + Ledger + Stocked + Send, D: Deques, V: View> Floor<'_, J, D, V> {
                 break;
             }
         }
-        seat.lend_lists(&mut strand);
+        let stay = self.folds_at_once(number, &strand);
+        seat.take_lists(&mut strand, stay);
         self.lay(rt, number, seat, strand, supply, gate)
+    }
+
+    /// Whether a worker that lays its strand down will most likely fold it at once with the next one, which waits: so its lists may stay with it,
+    /// and those of the child that has returned are kept there. It looks only where nobody has the lock, and nothing rests on it.
+    fn folds_at_once(&self, number: usize, strand: &RightStrand<J, V>) -> bool {
+        match strand.pause(&self.scene) {
+            Paused::Returned => match self.desk.try_lock() {
+                Some(desk) => desk.has_waiting_behind(number),
+                None => false,
+            },
+            _ => false,
+        }
     }
 
     /// Small steps, and what there is to do where the strand pauses. Whether the strand goes on. It stands in its callers' loops, which

@@ -31,9 +31,11 @@ pub struct Seat<J: Run + Ledger + Send, D: Deques> {
     share: Share<J>,
     wanted: Wanted,
     may_be_bound: bool,
-    // What the strands work with that its worker goes on with, and whether they do.
+    // What the strands work with that its worker goes on with, and whether they do; and whether they are with a strand that its worker has laid
+    // down to fold it at once.
     lists: WorkLists,
     serves: bool,
+    have_stayed: bool,
 }
 
 impl<J: Run + Ledger + Send, D: Deques> Model for Seat<J, D> {
@@ -61,6 +63,7 @@ impl<J: Run + Ledger + Send, D: Deques> Seat<J, D> {
             may_be_bound: true,
             lists: WorkLists::new(alloc),
             serves: false,
+            have_stayed: false,
         }
     }
 
@@ -72,14 +75,28 @@ impl<J: Run + Ledger + Send, D: Deques> Seat<J, D> {
         self.serves = true;
     }
 
-    /// The strand goes on with its lists, where they serve it, and leaves its own here. It takes no memory.
+    /// The strand goes on with its lists, where they serve it, and leaves its own here; it has them already where they have stayed with it. It
+    /// takes no memory.
     pub fn lend_lists<V: View>(&mut self, strand: &mut RightStrand<J, V>)
         ensures same { self.new ≡ self.old }
         ensures strand { strand.new ≡ strand.old }
     {
-        if self.serves {
+        if self.serves && !self.have_stayed {
             strand.exchange_lists(&mut self.lists);
         }
+        self.have_stayed = false;
+    }
+
+    /// The strand leaves its lists here that it went on with, and takes its own; where its worker will fold it at once they stay with it. It takes
+    /// no memory.
+    pub fn take_lists<V: View>(&mut self, strand: &mut RightStrand<J, V>, stay: bool)
+        ensures same { self.new ≡ self.old }
+        ensures strand { strand.new ≡ strand.old }
+    {
+        if self.serves && !stay {
+            strand.exchange_lists(&mut self.lists);
+        }
+        self.have_stayed = stay;
     }
 
     /// Whether its deque may be bound to a spot.
