@@ -98,13 +98,13 @@ returns-in-Stopped-clause-came g c n e =
 pub put_on_top-requires-clause-path_room : goal.put_on_top-requires-clause-path_room
 put_on_top-requires-clause-path_room g c =
     let few : c.in-Stopped.more ≤ length c.call_over.new.nest.above.items = c.in-Stopped.ensures.ahead.0 in
-    let long : length c.call_over.new.nest.above.items ≡ c.len.result = search rules in
-    let room : vec_len c.reserve.new.self + (c.len.result + 1) ≤ vec_capacity c.reserve.new.self = search rules in
+    let long : length c.call_over.new.nest.above.items ≡ c.len-most.result = search rules in
+    let room : vec_len c.reserve.new.self + (c.len-most.result + 1) ≤ vec_capacity c.reserve.new.self = search rules in
     omega (arith, few, long, room)
 
 pub put_on_top-requires-clause-below_room : goal.put_on_top-requires-clause-below_room
 put_on_top-requires-clause-below_room g c =
     let few : c.in-Stopped.more ≤ length c.call_over.new.nest.above.items = c.in-Stopped.ensures.ahead.0 in
-    let long : length c.call_over.new.nest.above.items ≡ c.len.result = search rules in
-    let room : vec_len c.reserve-else-is_err.new.self + (c.len.result + 1) ≤ vec_capacity c.reserve-else-is_err.new.self = search rules in
+    let long : length c.call_over.new.nest.above.items ≡ c.len-most.result = search rules in
+    let room : vec_len c.reserve-else-is_err.new.self + (c.len-most.result + 1) ≤ vec_capacity c.reserve-else-is_err.new.self = search rules in
     omega (arith, few, long, room)
