@@ -69,7 +69,8 @@ fn edit(rt: &impl Abort, tables: &mut Tables) {
     tables.put_at(parts, 7, &[3, 5]).expect(rt, "a row");
     let sales = tables.table("sales").expect(rt, "a table");
     tables.delete_at(sales, 3).expect(rt, "a row");
-    assert!(rt; tables.delete_at(sales, 3).is_err());
+    let same = tables.table("sales").expect(rt, "a table");
+    assert!(rt; tables.delete_at(same, 3).is_err());
 }
 
 #[test]
