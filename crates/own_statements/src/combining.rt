@@ -21,8 +21,9 @@ use monoid_laws::Kind;
 use view_pool::View;
 
 /// Combines what the expressions' values name with a reducer's value. Numbers, and slots that have one, read nothing: where they
-/// are as many as the reducer takes, that is quickest.
-#[inline(always)]
+/// are as many as the reducer takes, that is quickest. Most updates have a short form and don't come here, so it is compiled by itself: the
+/// loop over statements stays small enough to be compiled into those that call it.
+#[inline(never)]
 pub(crate) fn combine_some<V: View>(
     layer: &mut Layer<V>,
     setting: Setting<'_>,
