@@ -46,7 +46,8 @@ pub struct Here {
 }
 
 /// One statement that is no update of a reducer and no choice. Where the next one of the block is next, what the instance has left is not noted.
-#[inline(always)]
+/// It is compiled by itself, so that the loop over statements is small enough to be compiled into those around it.
+#[inline(never)]
 pub fn perform_alone<V: View>(
     layer: &mut Layer<V>,
     setting: Setting<'_>,
