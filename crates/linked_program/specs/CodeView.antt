@@ -65,19 +65,29 @@ code_block blocks (suc levels) n = acts_of (code_block blocks levels) (slice_get
 
 -- ---- short forms
 
--- what a statement of that short form does
-abbrev pub act_by : ShortForm → Option Act
-act_by short.Other = None
-act_by (short.UpdateSlot r x) = Some (updates r (slot x ∷ []))
-act_by (short.UpdateNumber r v) = Some (updates r (constant v ∷ []))
-act_by (short.UpdateSlots r x y) = Some (updates r (slot x ∷ slot y ∷ []))
-act_by (short.UpdateSlotAndNumber r x v) = Some (updates r (slot x ∷ constant v ∷ []))
-act_by (short.ReturnSlot x) = Some (gives (slot x))
-act_by (short.ReturnNumber v) = Some (gives (constant v))
-act_by (short.BindSlots n op x y) = Some (binds n (joined op (slot x) (slot y)))
-act_by (short.BindSlotAndNumber n op x v) = Some (binds n (joined op (slot x) (constant v)))
-act_by (short.BindNumberAndSlot n op v x) = Some (binds n (joined op (constant v) (slot x)))
-act_by (short.BindOnRow n op cells) = Some (binds n (on_row op cells))
+-- what a statement of that short form does, where `inner` is the plain block of a number
+abbrev pub act_by : (ℕ → Acts) → ShortForm → Option Act
+act_by inner short.Other = None
+act_by inner (short.UpdateSlot r x) = Some (updates r (slot x ∷ []))
+act_by inner (short.UpdateNumber r v) = Some (updates r (constant v ∷ []))
+act_by inner (short.UpdateSlots r x y) = Some (updates r (slot x ∷ slot y ∷ []))
+act_by inner (short.UpdateSlotAndNumber r x v) = Some (updates r (slot x ∷ constant v ∷ []))
+act_by inner (short.ReturnSlot x) = Some (gives (slot x))
+act_by inner (short.ReturnNumber v) = Some (gives (constant v))
+act_by inner (short.ReturnSlots op x y) = Some (gives (joined op (slot x) (slot y)))
+act_by inner (short.ReturnSlotAndNumber op x v) = Some (gives (joined op (slot x) (constant v)))
+act_by inner (short.ReturnNumberAndSlot op v x) = Some (gives (joined op (constant v) (slot x)))
+act_by inner (short.ReturnOnRow op cells) = Some (gives (on_row op cells))
+act_by inner (short.ReturnCell t x c) = Some (gives (cell_at t (slot x) c))
+act_by inner (short.BindSlots n op x y) = Some (binds n (joined op (slot x) (slot y)))
+act_by inner (short.BindSlotAndNumber n op x v) = Some (binds n (joined op (slot x) (constant v)))
+act_by inner (short.BindNumberAndSlot n op v x) = Some (binds n (joined op (constant v) (slot x)))
+act_by inner (short.BindOnRow n op cells) = Some (binds n (on_row op cells))
+act_by inner (short.BindCell n t x c) = Some (binds n (cell_at t (slot x) c))
+act_by inner (short.ChooseSlots op x y b c) = Some (chooses (joined op (slot x) (slot y)) (inner b) (inner c))
+act_by inner (short.ChooseSlotAndNumber op x v b c) = Some (chooses (joined op (slot x) (constant v)) (inner b) (inner c))
+act_by inner (short.ChooseNumberAndSlot op v x b c) = Some (chooses (joined op (constant v) (slot x)) (inner b) (inner c))
+act_by inner (short.ChooseOnRow op cells b c) = Some (chooses (on_row op cells) (inner b) (inner c))
 
 -- a reducer that there is takes so many numbers
 abbrev pub HasArity : ℕ → Option Kind → Type 0
@@ -93,12 +103,12 @@ HasCount kinds (short.UpdateSlotAndNumber r x v) = HasArity 2 (slice_get kinds r
 HasCount kinds _ = Unit {0}
 
 -- what a short form says of what is done
-abbrev pub IsFormOf : List Kind → ShortForm → Act → Type 0
-IsFormOf kinds f a = IfSome (act_by f) (λ b. a ≡ b) × HasCount kinds f
+abbrev pub IsFormOf : List Kind → (ℕ → Acts) → ShortForm → Act → Type 0
+IsFormOf kinds inner f a = IfSome (act_by inner f) (λ b. a ≡ b) × HasCount kinds f
 
 -- the short form of a statement says what that does
 abbrev pub HasShort : List Kind → Instruction → Type 0
-HasShort kinds i = (inner : ℕ → Acts) → IsFormOf kinds i.short (act inner i.operation)
+HasShort kinds i = (inner : ℕ → Acts) → IsFormOf kinds inner i.short (act inner i.operation)
 
 abbrev pub AreShort : List Kind → List Instruction → Type 0
 AreShort kinds is = All (HasShort kinds) is

@@ -43,8 +43,8 @@ pub enum Operation {
     Return(Expression),
 }
 
-/// A short form of a statement that is done often, over slots and numbers alone: nothing else has to be looked up for it, and an update
-/// has as many numbers as its reducer takes. Linking makes one wherever it can.
+/// A short form of a statement that is done often, over slots, numbers and cells whose row stands in a slot: an update has as many
+/// numbers as its reducer takes, and a choice ends in its two blocks. Linking makes one wherever it can.
 #[derive(Clone, Copy)]
 pub enum ShortForm {
     Other,
@@ -54,10 +54,20 @@ pub enum ShortForm {
     UpdateSlotAndNumber(usize, usize, i64),
     ReturnSlot(usize),
     ReturnNumber(i64),
+    ReturnSlots(Operator, usize, usize),
+    ReturnSlotAndNumber(Operator, usize, i64),
+    ReturnNumberAndSlot(Operator, i64, usize),
+    ReturnOnRow(Operator, RowCells),
+    ReturnCell(usize, usize, usize),
     BindSlots(usize, Operator, usize, usize),
     BindSlotAndNumber(usize, Operator, usize, i64),
     BindNumberAndSlot(usize, Operator, i64, usize),
     BindOnRow(usize, Operator, RowCells),
+    BindCell(usize, usize, usize, usize),
+    ChooseSlots(Operator, usize, usize, usize, usize),
+    ChooseSlotAndNumber(Operator, usize, i64, usize, usize),
+    ChooseNumberAndSlot(Operator, i64, usize, usize, usize),
+    ChooseOnRow(Operator, RowCells, usize, usize),
 }
 
 /// A statement, with its number in the procedure, and its short form.

@@ -2,7 +2,7 @@
 ghost use Rattle.std.specs.Prelude.{◌≡◌, ℕ, [], ◌∷◌, List, true, false, map, slice_get};
 ghost use Rattle.monoid_laws.specs.declared.Kind.{Kind as AnyKind};
 ghost use Rattle.monoid_laws.specs.Kinds.{arity as arity_of};
-ghost use Rattle.linked_program.specs.Linked.{slot as slot_of, Acts, binds, gives, updates};
+ghost use Rattle.linked_program.specs.Linked.{slot as slot_of, Acts, binds, chooses, gives, updates};
 ghost use Rattle.linked_program.specs.CodeView.{expression as plain, act, IsFormOf, HasArity};
 
 use crate::code::{Expression, Operation, ShortForm};
@@ -10,11 +10,12 @@ use monoid_laws::Kind;
 
 /// The short form of what a statement does, where it has one.
 pub(crate) fn short_form(kinds: &[Kind], operation: &Operation) -> ShortForm
-    ensures form { (inner : ℕ → Acts) → IsFormOf kinds.now result (act inner operation.now) }
+    ensures form { (inner : ℕ → Acts) → IsFormOf kinds.now inner result (act inner operation.now) }
 {
     match operation {
         Operation::Bind(name, value) => bind_form(*name, value),
         Operation::Update(reducer, values) => update_form(kinds, *reducer, values.as_slice()),
+        Operation::If(condition, first, second) => choice_form(condition, *first, *second),
         Operation::Return(value) => return_form(value),
         _ => ShortForm::Other,
     }
@@ -22,7 +23,7 @@ pub(crate) fn short_form(kinds: &[Kind], operation: &Operation) -> ShortForm
 
 // That of a statement that puts a value into a slot.
 fn bind_form(name: usize, value: &Expression) -> ShortForm
-    ensures form { (kinds : List AnyKind) → IsFormOf kinds result (binds name (plain value.now)) }
+    ensures form { (kinds : List AnyKind) (inner : ℕ → Acts) → IsFormOf kinds inner result (binds name (plain value.now)) }
 {
     match value {
         Expression::Slots(operator, left, right) => {
@@ -35,17 +36,52 @@ fn bind_form(name: usize, value: &Expression) -> ShortForm
             ShortForm::BindNumberAndSlot(name, *operator, *left, *right)
         }
         Expression::OnRow(operator, cells) => ShortForm::BindOnRow(name, *operator, *cells),
+        Expression::SlotCell(table, slot, column) => {
+            ShortForm::BindCell(name, *table, *slot, *column)
+        }
+        _ => ShortForm::Other,
+    }
+}
+
+// That of a choice between two blocks.
+fn choice_form(condition: &Expression, first: usize, second: usize) -> ShortForm
+    ensures form { (kinds : List AnyKind) (inner : ℕ → Acts) → IsFormOf kinds inner result (chooses (plain condition.now) (inner first) (inner second)) }
+{
+    match condition {
+        Expression::Slots(operator, left, right) => {
+            ShortForm::ChooseSlots(*operator, *left, *right, first, second)
+        }
+        Expression::SlotAndNumber(operator, left, right) => {
+            ShortForm::ChooseSlotAndNumber(*operator, *left, *right, first, second)
+        }
+        Expression::NumberAndSlot(operator, left, right) => {
+            ShortForm::ChooseNumberAndSlot(*operator, *left, *right, first, second)
+        }
+        Expression::OnRow(operator, cells) => {
+            ShortForm::ChooseOnRow(*operator, *cells, first, second)
+        }
         _ => ShortForm::Other,
     }
 }
 
 // That of a statement that gives a value back.
 fn return_form(value: &Expression) -> ShortForm
-    ensures form { (kinds : List AnyKind) → IsFormOf kinds result (gives (plain value.now)) }
+    ensures form { (kinds : List AnyKind) (inner : ℕ → Acts) → IsFormOf kinds inner result (gives (plain value.now)) }
 {
     match value {
         Expression::Slot(slot) => ShortForm::ReturnSlot(*slot),
         Expression::Number(number) => ShortForm::ReturnNumber(*number),
+        Expression::Slots(operator, left, right) => {
+            ShortForm::ReturnSlots(*operator, *left, *right)
+        }
+        Expression::SlotAndNumber(operator, left, right) => {
+            ShortForm::ReturnSlotAndNumber(*operator, *left, *right)
+        }
+        Expression::NumberAndSlot(operator, left, right) => {
+            ShortForm::ReturnNumberAndSlot(*operator, *left, *right)
+        }
+        Expression::OnRow(operator, cells) => ShortForm::ReturnOnRow(*operator, *cells),
+        Expression::SlotCell(table, slot, column) => ShortForm::ReturnCell(*table, *slot, *column),
         _ => ShortForm::Other,
     }
 }
@@ -63,7 +99,7 @@ fn takes_two(kind: &Kind) -> bool
 
 // That of an update by so many values as the reducer takes.
 fn update_form(kinds: &[Kind], reducer: usize, values: &[Expression]) -> ShortForm
-    ensures form { IsFormOf kinds.now result (updates reducer (map plain values.now)) }
+    ensures form { (inner : ℕ → Acts) → IsFormOf kinds.now inner result (updates reducer (map plain values.now)) }
 {
     match kinds.get(reducer) {
         None => ShortForm::Other,
@@ -82,7 +118,8 @@ fn update_form(kinds: &[Kind], reducer: usize, values: &[Expression]) -> ShortFo
 
 // That of an update by one value.
 fn one_form(reducer: usize, value: &Expression) -> ShortForm
-    ensures form { (kinds : List AnyKind) → HasArity 1 (slice_get kinds reducer) → IsFormOf kinds result (updates reducer (plain value.now ∷ [])) }
+    ensures form { (kinds : List AnyKind) (inner : ℕ → Acts) → HasArity 1 (slice_get kinds reducer)
+        → IsFormOf kinds inner result (updates reducer (plain value.now ∷ [])) }
 {
     match value {
         Expression::Slot(slot) => ShortForm::UpdateSlot(reducer, *slot),
@@ -93,8 +130,8 @@ fn one_form(reducer: usize, value: &Expression) -> ShortForm
 
 // That of an update by two values, of which the first stands in a slot.
 fn two_form(reducer: usize, first: &Expression, second: &Expression) -> ShortForm
-    ensures form { (kinds : List AnyKind) → HasArity 2 (slice_get kinds reducer)
-        → IsFormOf kinds result (updates reducer (plain first.now ∷ plain second.now ∷ [])) }
+    ensures form { (kinds : List AnyKind) (inner : ℕ → Acts) → HasArity 2 (slice_get kinds reducer)
+        → IsFormOf kinds inner result (updates reducer (plain first.now ∷ plain second.now ∷ [])) }
 {
     match first {
         Expression::Slot(slot) => beside_slot(reducer, *slot, second),
@@ -104,8 +141,8 @@ fn two_form(reducer: usize, first: &Expression, second: &Expression) -> ShortFor
 
 // That of an update by what a slot holds and a second value.
 fn beside_slot(reducer: usize, slot: usize, second: &Expression) -> ShortForm
-    ensures form { (kinds : List AnyKind) → HasArity 2 (slice_get kinds reducer)
-        → IsFormOf kinds result (updates reducer (slot_of slot ∷ plain second.now ∷ [])) }
+    ensures form { (kinds : List AnyKind) (inner : ℕ → Acts) → HasArity 2 (slice_get kinds reducer)
+        → IsFormOf kinds inner result (updates reducer (slot_of slot ∷ plain second.now ∷ [])) }
 {
     match second {
         Expression::Slot(other) => ShortForm::UpdateSlots(reducer, slot, *other),

@@ -1,18 +1,22 @@
 -- Values that are found at once, and updates by numbers that read nothing.
 use Rattle.std.proofs.Common.{◌≡◌, ◌∙◌, ℕ, ℤ, Bool, true, false, List, [], Option, Some, None, Result, Ok, Err, OnOk, OnErr, if◌then◌else◌, refl, sym, ap, subst}
-use Rattle.std.specs.Prelude.{is_ok, IfSome}
+use Rattle.std.specs.Prelude.{is_ok, IfSome, slice_get}
 use Rattle.std.proofs.lemmas.List.{append-nil}
 use Rattle.monoid_laws.specs.declared.Kind.{Kind}
 use Rattle.monoid_laws.specs.Kinds.{names_element}
 use Rattle.meaning.specs.declared.tree.Operator.{Operator}
 use Rattle.meaning.specs.declared.FaultKind.{FaultKind}
-use Rattle.meaning.specs.Tables.{Tables}
+use Rattle.meaning.specs.Tables.{Tables, row_of, at_column}
+use Rattle.input_tables.specs.Edited as read
+use Rattle.input_tables.specs.Edited.{rows_at}
 use Rattle.linked_program.specs.declared.code.Expression.{Expression}
 use Rattle.linked_program.specs.declared.code.Expression.TheVariants as e
 use Rattle.linked_program.specs.CodeView.{expression}
+use Rattle.linked_program.specs.Linked.{cell_at, slot}
 use Rattle.evaluation.specs.declared.note.Note.{Note}
 use Rattle.evaluation.specs.declared.slot.Slot.{Slot}
-use Rattle.evaluation.specs.Values.{NumberedOut, pure, value_at}
+use Rattle.evaluation.specs.Slots.{number_in}
+use Rattle.evaluation.specs.Values.{NumberedOut, ◌>>=◌, pure, looked, value_at}
 use Rattle.positions.specs.declared.phase.Phase.TheVariants.{Running}
 use Rattle.positions.specs.declared.work.Position.{Position}
 use Rattle.positions.specs.declared.work.Work.TheVariants.{Block}
@@ -43,6 +47,14 @@ pure_fills o v l e = (ap (λ (q : NumberedOut ℤ). q.answer) e, sym (ap (λ (q 
 pub unkept_fills : (o : NumberedOut ℤ) (res : Option ℤ) (l : PlainLayer) → IfSome res (λ v. o.answer ≡ Ok v) → l.keeps ≡ false → IfSome res (λ v. Fills o v l l)
 unkept_fills o None l h e = tt
 unkept_fills o (Some v) l h e = (h, ap (λ (xs : List Note). record l { notes = xs }) (not_kept l.keeps l.notes o.notes e))
+
+-- the value of a cell, by its row
+pub value_of_cell : (ts : Tables) (slots : List Slot) (t x c : ℕ) (vs : List ℤ) (v : ℤ) → row_of (rows_at ts t) (number_in (slice_get slots x)) ≡ Some vs → slice_get vs c ≡ Some v
+    → (value_at ts slots (cell_at t (slot x) c)).answer ≡ Ok v
+value_of_cell ts slots t x c vs v row there =
+    let n = number_in (slice_get slots x) in
+    let is : read.cell_at ts t n c ≡ Some v = ap (λ o. at_column o c) row ∙ there in
+    ap (λ (o : Option ℤ). (pure n >>= (λ k. looked t k c o)).answer) is
 
 module _ (passes : Bool) (p : Position) (n r : ℕ) (kind : Kind) (vs : List ℤ) (a : PlainActivation) (l m : PlainLayer) where
   combined : names_element kind vs ≡ true → m ≡ updating r kind vs l → Does passes p (λ kit. evaluated n (pure vs) (combining (Some kind) n p r)) a l Next a m

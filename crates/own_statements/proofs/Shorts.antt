@@ -1,35 +1,43 @@
 -- What the short forms of statements say of their meaning.
-use Rattle.std.proofs.Common.{◌≡◌, ◌∙◌, ◌<◌, ℕ, zero, suc, ℤ, Bool, List, [], ◌∷◌, Option, Some, None, IfSome, length, map, slice_get, refl, sym, ap, subst, arith}
+use Rattle.std.proofs.Common.{◌≡◌, ◌∙◌, ◌<◌, ℕ, zero, suc, ℤ, Bool, List, [], ◌∷◌, Option, Some, None, IfSome, length, map, slice_get, refl, sym, ap, subst, inl, inr, arith}
 use Rattle.std.specs.Prelude.{Vec}
 use Rattle.std.specs.declared.alloc.Global.{Global}
 use Rattle.monoid_laws.specs.declared.Kind.{Kind}
 use Rattle.meaning.specs.Tables.{Tables}
 use Rattle.linked_program.specs.declared.code.Expression.{Expression}
+use Rattle.linked_program.specs.declared.code.Instruction.{Instruction}
 use Rattle.linked_program.specs.declared.code.Operation.{Operation}
 use Rattle.linked_program.specs.declared.code.Operation.TheVariants as o
-use Rattle.linked_program.specs.Linked.{Linked, ends, updates, binds, gives}
-use Rattle.linked_program.specs.CodeView.{expression, act, HasArity}
+use Rattle.linked_program.specs.Linked.{Linked, Acts, ends, steps, syncs, updates, binds, chooses, gives}
+use Rattle.linked_program.specs.CodeView.{expression, act, HasArity, instruction_at}
 use Rattle.evaluation.specs.declared.slot.Slot.{Slot}
 use Rattle.evaluation.specs.declared.slot.Slot.TheVariants.{Has}
 use Rattle.evaluation.specs.Values.{NumberedOut, pure, value_at, values_at}
 use Rattle.positions.specs.declared.phase.Phase.TheVariants.{Running, Returning}
 use Rattle.positions.specs.declared.work.Position.{Position}
 use Rattle.positions.specs.declared.work.Work.TheVariants.{Block}
+use Rattle.positions.specs.Code.{instruction_inside}
 use Rattle.positions.specs.Setting.{Setting}
 use Rattle.positions.specs.Activations.{PlainActivation, at, next_of, bound}
 use Rattle.positions.specs.Layers.{PlainLayer}
-use Rattle.positions.specs.Advance.{evaluated, answered, noted, binding, combining, giving, performed}
+use Rattle.positions.specs.Advance.{evaluated, answered, noted, binding, choosing, combining, giving, performed}
+use Rattle.positions.specs.Strands.{PlainStrand}
 use Rattle.own_statements.specs.declared.statements.Did.{Did}
-use Rattle.own_statements.specs.declared.statements.Did.TheVariants.{Next, Gave}
+use Rattle.own_statements.specs.declared.statements.Did.TheVariants.{Nothing, Next, Moved, Gave}
+use Rattle.own_statements.specs.Effects.{Comes}
 use Rattle.own_statements.specs.Fills.{Fills}
-use Rattle.own_statements.specs.Paths.{Does, topped}
+use Rattle.own_statements.specs.Paths.{ComesTo, Does, topped}
 use Rattle.own_statements.proofs.AtOnce.{pure_fills}
-use Rattle.own_statements.proofs.Paths.{does_as}
+use Rattle.own_statements.proofs.Paths.{does_as, come_next, come_passed}
 use Rattle.own_statements.proofs.Updates.{does_update}
 
 -- ---- the operation that a form stands for
 
-is_update : (op : Operation) (r : ℕ) (es : List Linked) → act (λ k. ends) op ≡ updates r es → (xs : Vec Expression Global) × (op ≡ o.Update r xs) × (es ≡ map expression xs.items)
+-- a plain block that tells its number
+abbrev pub numbered : ℕ → Acts
+numbered k = steps k syncs ends
+
+is_update : (op : Operation) (r : ℕ) (es : List Linked) → act numbered op ≡ updates r es → (xs : Vec Expression Global) × (op ≡ o.Update r xs) × (es ≡ map expression xs.items)
 is_update (o.Update s xs) r es e = let q : s ≡ r = cc in (xs, ap (λ k. o.Update k xs) q, cc)
 is_update (o.Bind x y) r es e = absurd cc
 is_update (o.Enter x way f xs) r es e = absurd cc
@@ -39,7 +47,7 @@ is_update (o.If x b c) r es e = absurd cc
 is_update (o.Loop x low high grain f xs) r es e = absurd cc
 is_update (o.Return x) r es e = absurd cc
 
-is_bind : (op : Operation) (x : ℕ) (e : Linked) → act (λ k. ends) op ≡ binds x e → (y : Expression) × (op ≡ o.Bind x y) × (e ≡ expression y)
+is_bind : (op : Operation) (x : ℕ) (e : Linked) → act numbered op ≡ binds x e → (y : Expression) × (op ≡ o.Bind x y) × (e ≡ expression y)
 is_bind (o.Bind z y) x e is = let q : z ≡ x = cc in (y, ap (λ k. o.Bind k y) q, cc)
 is_bind (o.Update s xs) x e is = absurd cc
 is_bind (o.Enter z way f xs) x e is = absurd cc
@@ -49,7 +57,7 @@ is_bind (o.If z b c) x e is = absurd cc
 is_bind (o.Loop z low high grain f xs) x e is = absurd cc
 is_bind (o.Return z) x e is = absurd cc
 
-is_give : (op : Operation) (e : Linked) → act (λ k. ends) op ≡ gives e → (y : Expression) × (op ≡ o.Return y) × (e ≡ expression y)
+is_give : (op : Operation) (e : Linked) → act numbered op ≡ gives e → (y : Expression) × (op ≡ o.Return y) × (e ≡ expression y)
 is_give (o.Return y) e is = (y, refl, cc)
 is_give (o.Bind z y) e is = absurd cc
 is_give (o.Update s xs) e is = absurd cc
@@ -59,10 +67,38 @@ is_give o.Sync e is = absurd cc
 is_give (o.If z b c) e is = absurd cc
 is_give (o.Loop z low high grain f xs) e is = absurd cc
 
+is_choice : (op : Operation) (e : Linked) (b c : ℕ) → act numbered op ≡ chooses e (numbered b) (numbered c) → (y : Expression) × (op ≡ o.If y b c) × (e ≡ expression y)
+is_choice (o.If y f g) e b c is =
+    let p : f ≡ b = cc in
+    let q : g ≡ c = cc in
+    (y, ap (λ k. o.If y k g) p ∙ ap (λ k. o.If y b k) q, cc)
+is_choice (o.Update s xs) e b c is = absurd cc
+is_choice (o.Enter x way f xs) e b c is = absurd cc
+is_choice (o.Read x s) e b c is = absurd cc
+is_choice o.Sync e b c is = absurd cc
+is_choice (o.Bind x y) e b c is = absurd cc
+is_choice (o.Loop x low high grain f xs) e b c is = absurd cc
+is_choice (o.Return x) e b c is = absurd cc
+
 -- ---- its meaning
 
+module _ (S : Setting) (passes : Bool) (p : Position) (f : Bool → PlainStrand → PlainStrand) (a : PlainActivation) (l : PlainLayer) where
+  pub comes : (did : Did) (b : PlainActivation) (m : PlainLayer) → Does passes p f a l did b m → Comes S passes p f a l did b m
+  comes Nothing b m h = h
+  comes Next b m h = inl h
+  comes Moved b m h = h
+  comes (Gave v) b m h = h
+
+  pub comes_as : (g : Bool → PlainStrand → PlainStrand) (did : Did) (b : PlainActivation) (m : PlainLayer)
+      → ((kit : Bool) (s : PlainStrand) → f kit (topped Running (at (Block p) a) l s) ≡ g kit (topped Running (at (Block p) a) l s)) → Comes S passes p f a l did b m → Comes S passes p g a l did b m
+  comes_as g Nothing b m e h = h
+  comes_as g Next b m e (inl h) = inl (λ s may kit. h s may kit ∙ e kit s)
+  comes_as g Next b m e (inr h) = inr (h.0, h.1, (λ s may kit. h.2 s may kit ∙ e kit s))
+  comes_as g Moved b m e h = λ s may kit. h s may kit ∙ e kit s
+  comes_as g (Gave v) b m e h = λ s may kit. h s may kit ∙ e kit s
+
 module _ (S : Setting) (passes : Bool) (p : Position) (n : ℕ) (a : PlainActivation) (l : PlainLayer) (did : Did) (b : PlainActivation) (m : PlainLayer) (op : Operation) where
-  pub short_update : (r : ℕ) (es : List Linked) → act (λ k. ends) op ≡ updates r es
+  pub short_update : (r : ℕ) (es : List Linked) → act numbered op ≡ updates r es
       → Does passes p (λ kit. evaluated n (values_at S.tables a.slots es) (combining (slice_get S.kinds r) n p r)) a l did b m
       → Does passes p (λ kit. performed S kit p n op) a l did b m
   short_update r es is h =
@@ -70,7 +106,7 @@ module _ (S : Setting) (passes : Bool) (p : Position) (n : ℕ) (a : PlainActiva
       does_update S passes p n r found.0 found.0.items op a l did b m found.1 refl
       (subst (λ (ys : List Linked). Does passes p (λ kit. evaluated n (values_at S.tables a.slots ys) (combining (slice_get S.kinds r) n p r)) a l did b m) found.2 h)
 
-  pub short_bind : (x : ℕ) (e : Linked) → act (λ k. ends) op ≡ binds x e
+  pub short_bind : (x : ℕ) (e : Linked) → act numbered op ≡ binds x e
       → Does passes p (λ kit. evaluated n (value_at S.tables a.slots e) (binding p x)) a l did b m
       → Does passes p (λ kit. performed S kit p n op) a l did b m
   short_bind x e is h =
@@ -79,7 +115,7 @@ module _ (S : Setting) (passes : Bool) (p : Position) (n : ℕ) (a : PlainActiva
       (does_as S passes p (λ (kit : Bool). evaluated n (value_at S.tables a.slots (expression found.0)) (binding p x)) (λ kit. performed S kit p n (o.Bind x found.0)) a l did b m (λ kit s. refl)
       (subst (λ (z : Linked). Does passes p (λ kit. evaluated n (value_at S.tables a.slots z) (binding p x)) a l did b m) found.2 h))
 
-  pub short_give : (e : Linked) → act (λ k. ends) op ≡ gives e
+  pub short_give : (e : Linked) → act numbered op ≡ gives e
       → Does passes p (λ kit. evaluated n (value_at S.tables a.slots e) giving) a l did b m
       → Does passes p (λ kit. performed S kit p n op) a l did b m
   short_give e is h =
@@ -87,6 +123,23 @@ module _ (S : Setting) (passes : Bool) (p : Position) (n : ℕ) (a : PlainActiva
       subst (λ (q : Operation). Does passes p (λ kit. performed S kit p n q) a l did b m) (sym found.1)
       (does_as S passes p (λ (kit : Bool). evaluated n (value_at S.tables a.slots (expression found.0)) giving) (λ kit. performed S kit p n (o.Return found.0)) a l did b m (λ kit s. refl)
       (subst (λ (z : Linked). Does passes p (λ kit. evaluated n (value_at S.tables a.slots z) giving) a l did b m) found.2 h))
+
+  pub short_choice : (e : Linked) (first second : ℕ) → act numbered op ≡ chooses e (numbered first) (numbered second)
+      → Comes S passes p (λ kit. evaluated n (value_at S.tables a.slots e) (choosing p first second)) a l did b m
+      → Comes S passes p (λ kit. performed S kit p n op) a l did b m
+  short_choice e first second is h =
+      let found = is_choice op e first second is in
+      subst (λ (q : Operation). Comes S passes p (λ kit. performed S kit p n q) a l did b m) (sym found.1)
+      (comes_as S passes p (λ (kit : Bool). evaluated n (value_at S.tables a.slots (expression found.0)) (choosing p first second)) a l (λ kit. performed S kit p n (o.If found.0 first second)) did b m (λ kit s. refl)
+      (subst (λ (z : Linked). Comes S passes p (λ kit. evaluated n (value_at S.tables a.slots z) (choosing p first second)) a l did b m) found.2 h))
+
+-- an instance comes to the next statement of its block by a short form
+pub come_short : (S : Setting) (passes : Bool) (a : PlainActivation) (l : PlainLayer) (p : Position) (b : PlainActivation) (m : PlainLayer) → ComesTo S passes a l None (at (Block p) b) m
+    → (i : Instruction) → Some i ≡ instruction_inside S.codes b.procedure (length b.outer) p → (c : PlainActivation) (n : PlainLayer) → c.procedure ≡ b.procedure
+    → Comes S passes p (λ kit. performed S kit p i.number i.operation) b m Next c n → ComesTo S passes a l None (at (Block (next_of p)) c) n
+come_short S passes a l p b m come i found c n same (inl h) = come_next S passes a l p b m come i found c n h
+come_short S passes a l p b m come i found c n same (inr h) =
+    come_passed S passes a l p b m come i found c n h.0 (ap (λ f. instruction_at S.codes f h.0 0) same ∙ h.1) h.2
 
 -- ---- values that were found
 

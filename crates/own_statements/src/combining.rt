@@ -1,93 +1,25 @@
 //! Updates of reducers in the topmost layer.
-ghost use Rattle.std.specs.Prelude.{◌≡◌, ◌+◌, ◌<◌, ◌^◌, ◌∷◌, [], true, false, if◌then◌else◌, IfSome, OnSome, length, map, slice_get};
-ghost use Rattle.monoid_laws.specs.Kinds.{arity as arity_of};
-ghost use Rattle.meaning.specs.Tables.{Tables as TableList};
+ghost use Rattle.std.specs.Prelude.{◌≡◌, ◌+◌, ◌<◌, ◌^◌, ◌∷◌, [], true, false, if◌then◌else◌, length, map, slice_get};
 ghost use Rattle.linked_program.specs.CodeView.{expression as plain};
-ghost use Rattle.evaluation.specs.Values.{pure, value_at, values_at};
+ghost use Rattle.evaluation.specs.Values.{values_at};
 ghost use Rattle.positions.specs.Advance.{evaluated, combining};
 ghost use Rattle.own_statements.specs.declared.statements.Did.TheVariants.{Nothing, Next};
 ghost use Rattle.own_statements.specs.Paths.{Does, OnNext, IsInBlock, Takes, Combines};
 
-use crate::found::number_at_once;
 use crate::statements::Here;
 use activations::activation::Activation;
 use activations::setting::Setting;
-use evaluation::slot::Slot;
 use layers::layer::Layer;
 use layers::updating::arity;
 use linked_program::checked::Checked;
 use linked_program::code::Expression;
-use monoid_laws::Kind;
 use view_pool::View;
 
-/// Combines what the expressions' values name with a reducer's value. Numbers, and slots that have one, read nothing: where they
-/// are as many as the reducer takes, that is quickest. Most updates have a short form and don't come here, so it is compiled by itself: the
-/// loop over statements stays small enough to be compiled into those that call it.
+/// Combines what the values of whatever expressions name; those of one or two that are as many as the reducer takes need no list.
+/// Most updates have a short form and don't come here, so it is compiled by itself: the loop over statements stays small enough to be
+/// compiled into those that call it.
 #[inline(never)]
 pub(crate) fn combine_some<V: View>(
-    layer: &mut Layer<V>,
-    setting: Setting<'_>,
-    here: Here,
-    reducer: usize,
-    expressions: &[Expression],
-    top: &mut Activation,
-    numbers: &mut Vec<i64>,
-) -> bool
-    requires room { here.position.index + 1 < 2 ^ 64 }
-    requires kinds { layer.old.kinds ≡ setting.program.now.kinds }
-    ensures done { Does here.passes_syncs here.position (λ kit. evaluated here.statement
-        (values_at setting.entry.tables.now.tables top.old.slots (map plain expressions.now))
-        (combining (slice_get setting.entry.program.now.kinds reducer) here.statement here.position reducer))
-        top.old layer.old (if result then Next else Nothing) top.new layer.new }
-    ensures same_block { OnNext (if result then Next else Nothing) (IsInBlock top.old top.new) }
-    ensures kinds { layer.new.kinds ≡ layer.old.kinds }
-{
-    match setting.program.kinds().get(reducer) {
-        None => combine_evaluated(layer, setting, here, reducer, expressions, top, numbers),
-        Some(kind) => match one_number(kind, expressions, top.slots()) {
-            Some(number) => layer.update_fitting(kind, reducer, &[number]).is_ok(),
-            None => match two_numbers(kind, expressions, top.slots()) {
-                Some(pair) => layer
-                    .update_fitting(kind, reducer, &[pair.0, pair.1])
-                    .is_ok(),
-                None => {
-                    combine_evaluated(layer, setting, here, reducer, expressions, top, numbers)
-                }
-            },
-        },
-    }
-}
-
-/// The number of the only expression, if that has one at once, where the kind takes one.
-#[inline(always)]
-fn one_number(kind: &Kind, expressions: &[Expression], slots: &[Slot]) -> Option<i64>
-    ensures count { OnSome result (1 ≡ arity_of kind.now) }
-    ensures value { IfSome result (λ v. (all : TableList) → values_at all slots.now (map plain expressions.now) ≡ pure (v ∷ [])) }
-{
-    if expressions.len() != 1 || arity(kind) != 1 {
-        return None;
-    }
-    number_at_once(&expressions[0], slots)
-}
-
-/// The numbers of both expressions, if these have them at once, where the kind takes two.
-#[inline(always)]
-fn two_numbers(kind: &Kind, expressions: &[Expression], slots: &[Slot]) -> Option<(i64, i64)>
-    ensures count { OnSome result (2 ≡ arity_of kind.now) }
-    ensures value { IfSome result (λ p. (all : TableList) → values_at all slots.now (map plain expressions.now) ≡ pure (p.0 ∷ p.1 ∷ [])) }
-{
-    if expressions.len() != 2 || arity(kind) != 2 {
-        return None;
-    }
-    let first = number_at_once(&expressions[0], slots)?;
-    let second = number_at_once(&expressions[1], slots)?;
-    Some((first, second))
-}
-
-/// Combines what the values of whatever expressions name; those of one or two that are as many as the reducer takes need no list.
-#[cold]
-#[inline(never)]
-fn combine_evaluated<V: View>(
     layer: &mut Layer<V>,
     setting: Setting<'_>,
     here: Here,

@@ -1,14 +1,14 @@
 //! Values of expressions that are found at once, with nothing to note for them.
-ghost use Rattle.std.specs.Prelude.{◌≡◌, IfSome, Some, slice_get};
+ghost use Rattle.std.specs.Prelude.{◌≡◌, IfSome, Ok, Some, slice_get};
 ghost use Rattle.meaning.specs.Tables.{Tables as TableList};
 ghost use Rattle.linked_program.specs.CodeView.{expression as plain, on_row as row_of};
-ghost use Rattle.linked_program.specs.Linked.{slot as slot_of};
+ghost use Rattle.linked_program.specs.Linked.{cell_at, slot as slot_of};
 ghost use Rattle.evaluation.specs.declared.slot.Slot.TheVariants.{Has};
 ghost use Rattle.evaluation.specs.Values.{pure, value_at};
 ghost use Rattle.own_statements.specs.Fills.{Fills};
 
 use evaluation::slot::Slot;
-use evaluation::values::without_reading;
+use evaluation::values::{number_in, without_reading};
 use evaluation::{at_once, unnoted, unread};
 use input_tables::Tables;
 use layers::layer::Layer;
@@ -81,6 +81,41 @@ pub(crate) fn on_row<V: View>(
         return None;
     }
     unnoted::row_at_once(operator, cells, slots, tables)
+}
+
+/// The value of a cell of a slot's row over a layer that keeps no readings, where the row is found at once.
+#[inline(always)]
+#[tactic(auto, using(crate::proofs::AtOnce::unkept_fills))]
+pub(crate) fn cell_there<V: View>(
+    layer: &Layer<V>,
+    table: usize,
+    slot: usize,
+    column: usize,
+    slots: &[Slot],
+    tables: &Tables,
+) -> Option<i64>
+    ensures value { IfSome result (λ v. Fills (value_at tables.now.tables slots.now (cell_at table (slot_of slot) column)) v layer.now layer.now) }
+{
+    if layer.keeps {
+        return None;
+    }
+    cell_at_once(table, slot, column, slots, tables)
+}
+
+/// The value of a cell of a slot's row, where the row is found at once.
+#[inline(always)]
+fn cell_at_once(
+    table: usize,
+    slot: usize,
+    column: usize,
+    slots: &[Slot],
+    tables: &Tables,
+) -> Option<i64>
+    ensures value { IfSome result (λ v. (value_at tables.now.tables slots.now (cell_at table (slot_of slot) column)).answer ≡ Ok v) }
+{
+    let values = tables.row_at_once(table, number_in(slots, slot))?;
+    let value = values.get(column)?;
+    Some(*value)
 }
 
 /// The value of an expression where it is found at once; that of a number, or of a slot that has one, without a call.

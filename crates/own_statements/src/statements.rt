@@ -1,10 +1,12 @@
 //! The statements that an instance does by itself: they enter no other instance.
-ghost use Rattle.std.specs.Prelude.{◌≡◌, ◌+◌, ◌<◌, ◌^◌, None, true, false, if◌then◌else◌};
+ghost use Rattle.std.specs.Prelude.{◌≡◌, ◌+◌, ◌<◌, ◌^◌, ℕ, ℤ, Bool, None, true, false, if◌then◌else◌};
 ghost use Rattle.linked_program.specs.CodeView.{expression as plain, instruction_at};
-ghost use Rattle.evaluation.specs.Values.{value_at};
+ghost use Rattle.evaluation.specs.Values.{NumberedOut, value_at};
+ghost use Rattle.positions.specs.Layers.{PlainLayer};
 ghost use Rattle.positions.specs.Strands.{is_entry};
 ghost use Rattle.positions.specs.Advance.{evaluated, binding, choosing, giving, moved_on, performed};
 ghost use Rattle.activations.specs.Given.{lent};
+ghost use Rattle.own_statements.specs.Fills.{Fills};
 ghost use Rattle.own_statements.specs.Paths.{Chooses, Does, OnNext, OnPassed, IsInBlock};
 
 use crate::found::{given_at_once, value_at_once};
@@ -172,18 +174,35 @@ pub fn choose<V: View>(
     ensures kinds { layer.new.kinds ≡ layer.old.kinds }
 {
     match value_at_once(layer, condition, top.slots(), setting.tables) {
-        Some(value) => {
-            if value == 0 && is_empty(setting.program, top.procedure(), second) {
-                return Chosen::Passed;
-            }
-            let block = if value == 0 { second } else { first };
-            if top.go_inside(block, here.position).is_err() {
-                return Chosen::Nothing;
-            }
-            Chosen::Inside
-        }
+        Some(value) => go_by(setting.program, here.position, value, first, second, top),
         None => choose_evaluated(layer, setting.tables, here, condition, first, second, top),
     }
+}
+
+/// Goes into one of two blocks by the value that their condition has. A second one in which there is nothing is passed by.
+#[inline(always)]
+pub(crate) fn go_by(
+    program: &Checked,
+    position: Position,
+    value: i64,
+    first: usize,
+    second: usize,
+    top: &mut Activation,
+) -> Chosen
+    requires room { position.index + 1 < 2 ^ 64 }
+    ensures done { (passes : Bool) (n : ℕ) (l : PlainLayer) (o : NumberedOut ℤ) → Fills o value l l
+        → Chooses passes position second (λ kit. evaluated n o (choosing position first second)) top.old l result top.new l }
+    ensures empty { OnPassed result (instruction_at program.now.codes top.old.procedure second 0 ≡ None) }
+    ensures same_block { OnPassed result (IsInBlock top.old top.new) }
+{
+    if value == 0 && is_empty(program, top.procedure(), second) {
+        return Chosen::Passed;
+    }
+    let block = if value == 0 { second } else { first };
+    if top.go_inside(block, position).is_err() {
+        return Chosen::Nothing;
+    }
+    Chosen::Inside
 }
 
 /// Whether there is nothing in a block of a procedure.
@@ -251,9 +270,8 @@ fn give<V: View>(
 }
 
 /// Gives the value of whatever expression back.
-#[cold]
 #[inline(never)]
-fn give_evaluated<V: View>(
+pub(crate) fn give_evaluated<V: View>(
     layer: &mut Layer<V>,
     tables: &Tables,
     here: Here,

@@ -17,7 +17,7 @@ returns-then-not-two c =
     let x = c.index-values-0.result in
     let count : length xs ≡ 1 = search rules in
     record {
-      form = subst (λ (ys : List Expression). IsFormOf ks c.one_form.result (updates r (map expression ys))) (sym (one_of xs x count c.index-values-0.is)) (c.one_form.ensures.form ks takes);
+      form = λ inner. subst (λ (ys : List Expression). IsFormOf ks inner c.one_form.result (updates r (map expression ys))) (sym (one_of xs x count c.index-values-0.is)) (c.one_form.ensures.form ks inner takes);
     }
 
 pub returns-then-two : goal.returns-then-two
@@ -32,5 +32,5 @@ returns-then-two c =
     let y = c.index-values-1.result in
     let count : length xs ≡ 2 = search rules in
     record {
-      form = subst (λ (ys : List Expression). IsFormOf ks c.two_form.result (updates r (map expression ys))) (sym (two_of xs x y count c.index-values-0-then-two.is c.index-values-1.is)) (c.two_form.ensures.form ks takes);
+      form = λ inner. subst (λ (ys : List Expression). IsFormOf ks inner c.two_form.result (updates r (map expression ys))) (sym (two_of xs x y count c.index-values-0-then-two.is c.index-values-1.is)) (c.two_form.ensures.form ks inner takes);
     }

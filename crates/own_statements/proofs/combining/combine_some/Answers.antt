@@ -1,49 +1,45 @@
-use Rattle.std.proofs.Common.{rules, ◌≡◌, ◌∙◌, ◌∷◌, [], Bool, true, List, OnOk, Some, if◌then◌else◌, length, map, slice_get, refl, sym, ap}
-use Rattle.std.proofs.lemmas.Option.{slice_get_read}
-use Rattle.monoid_laws.specs.declared.Kind.{Kind}
-use Rattle.monoid_laws.specs.Kinds.{names_element}
+use Rattle.std.proofs.Common.{rules, if◌then◌else◌, ◌≡◌, ◌∷◌, [], List, length, map, slice_get, sym, ap}
+use Rattle.linked_program.specs.declared.code.Expression.{Expression}
 use Rattle.linked_program.specs.CodeView.{expression}
-use Rattle.evaluation.specs.declared.slot.Slot.{Slot}
 use Rattle.evaluation.specs.Values.{values_at}
-use Rattle.positions.specs.Layers.{updating}
+use Rattle.positions.specs.declared.phase.Phase.TheVariants.{Running}
+use Rattle.positions.specs.declared.work.Work.TheVariants.{Block}
+use Rattle.positions.specs.Activations.{at}
+use Rattle.positions.specs.Advance.{evaluated, combining}
+use Rattle.activations.specs.Given.{lent}
 use Rattle.own_statements.specs.declared.statements.Did.TheVariants.{Nothing, Next}
-use Rattle.own_statements.proofs.AtOnce.{does_at_once}
+use Rattle.own_statements.specs.Paths.{topped}
+use Rattle.linked_program.proofs.Ones.{one_of, two_of}
+use Rattle.own_statements.proofs.Paths.{does_as}
 use Rattle.own_statements.proofs.combining.combine_some.Goals as goal
 
-pub returns-in-Some-one_number-clause-done : goal.returns-in-Some-one_number-clause-done
-returns-in-Some-one_number-clause-done g c =
-    let ts = c.args.setting.tables.now.tables in
-    let es = map expression c.args.expressions.now in
-    let slots = c.args.top.now.slots in
+pub returns-then-takes-clause-done : goal.returns-then-takes-clause-done
+returns-then-takes-clause-done g c =
+    let S = lent c.args.setting in
+    let n = c.args.here.statement in
+    let p = c.args.here.position in
     let r = c.args.reducer in
-    let ks = c.kinds.result.now in
-    let kind = c.in-Some.kind.now in
-    let v = c.in-Some-one_number.number in
-    let is : slice_get c.args.setting.program.now.kinds r ≡ Some kind =
-    ap (λ (xs : List Kind). slice_get xs r) (sym c.kinds.ensures.kinds) ∙ slice_get_read ks (length ks) r kind refl c.in-Some.ensures.lookup.3.0 c.in-Some.ensures.lookup.1 in
-    let updated : OnOk c.update_fitting.result (c.update_fitting.new.self ≡ updating r kind (v ∷ []) c.args.layer.now) = search rules in
-    let named : OnOk c.update_fitting.result (names_element kind (v ∷ []) ≡ true) = search rules in
-    does_at_once c.args.here.passes_syncs c.args.here.position c.args.here.statement r kind (v ∷ []) c.args.top.now c.args.layer.now c.update_fitting.new.self
-    c.update_fitting.result (if c.is_ok.result then Next else Nothing) (values_at ts slots es) (slice_get c.args.setting.program.now.kinds r) is
-    (ap (λ (xs : List Slot). values_at ts xs es) (sym c.slots.ensures.slots) ∙ c.in-Some-one_number.ensures.value ts)
-    (ap (λ (b : Bool). if b then Next else Nothing) c.is_ok.ensures.value)
-    updated named c.update_fitting.ensures.unchanged
+    let a = c.args.top.now in
+    let xs = c.args.expressions.now in
+    let x = c.index-expressions-0.result in
+    let count : length xs ≡ 1 = search rules in
+    let is : xs ≡ x ∷ [] = one_of xs x count c.index-expressions-0.is in
+    does_as S c.args.here.passes_syncs p (λ kit. evaluated n (values_at S.tables a.slots (map expression (x ∷ []))) (combining (slice_get S.kinds r) n p r)) (λ kit. evaluated n (values_at S.tables a.slots (map expression xs)) (combining (slice_get S.kinds r) n p r))
+    a c.args.layer.now (if c.combine_one.result then Next else Nothing) c.combine_one.new.top c.combine_one.new.layer
+    (λ kit s. ap (λ (es : List Expression). evaluated n (values_at S.tables a.slots (map expression es)) (combining (slice_get S.kinds r) n p r) (topped Running (at (Block p) a) c.args.layer.now s)) (sym is)) c.combine_one.ensures.done
 
-pub returns-in-Some-two_numbers-clause-done : goal.returns-in-Some-two_numbers-clause-done
-returns-in-Some-two_numbers-clause-done g c =
-    let ts = c.args.setting.tables.now.tables in
-    let es = map expression c.args.expressions.now in
-    let slots = c.args.top.now.slots in
+pub returns-then-takes-2-clause-done : goal.returns-then-takes-2-clause-done
+returns-then-takes-2-clause-done g c =
+    let S = lent c.args.setting in
+    let n = c.args.here.statement in
+    let p = c.args.here.position in
     let r = c.args.reducer in
-    let ks = c.kinds.result.now in
-    let kind = c.in-Some.kind.now in
-    let pair = c.in-Some-two_numbers.pair in
-    let is : slice_get c.args.setting.program.now.kinds r ≡ Some kind =
-    ap (λ (xs : List Kind). slice_get xs r) (sym c.kinds.ensures.kinds) ∙ slice_get_read ks (length ks) r kind refl c.in-Some.ensures.lookup.3.0 c.in-Some.ensures.lookup.1 in
-    let updated : OnOk c.update_fitting-in-Some-two_numbers.result (c.update_fitting-in-Some-two_numbers.new.self ≡ updating r kind (pair.0 ∷ pair.1 ∷ []) c.args.layer.now) = search rules in
-    let named : OnOk c.update_fitting-in-Some-two_numbers.result (names_element kind (pair.0 ∷ pair.1 ∷ []) ≡ true) = search rules in
-    does_at_once c.args.here.passes_syncs c.args.here.position c.args.here.statement r kind (pair.0 ∷ pair.1 ∷ []) c.args.top.now c.args.layer.now c.update_fitting-in-Some-two_numbers.new.self
-    c.update_fitting-in-Some-two_numbers.result (if c.is_ok-in-Some-two_numbers.result then Next else Nothing) (values_at ts slots es) (slice_get c.args.setting.program.now.kinds r) is
-    (ap (λ (xs : List Slot). values_at ts xs es) (sym c.slots-in-None-one_number.ensures.slots) ∙ c.in-Some-two_numbers.ensures.value ts)
-    (ap (λ (b : Bool). if b then Next else Nothing) c.is_ok-in-Some-two_numbers.ensures.value)
-    updated named c.update_fitting-in-Some-two_numbers.ensures.unchanged
+    let a = c.args.top.now in
+    let xs = c.args.expressions.now in
+    let x = c.index-expressions-0-then-takes-2.result in
+    let y = c.index-expressions-1.result in
+    let count : length xs ≡ 2 = search rules in
+    let is : xs ≡ x ∷ y ∷ [] = two_of xs x y count c.index-expressions-0-then-takes-2.is c.index-expressions-1.is in
+    does_as S c.args.here.passes_syncs p (λ kit. evaluated n (values_at S.tables a.slots (map expression (x ∷ y ∷ []))) (combining (slice_get S.kinds r) n p r)) (λ kit. evaluated n (values_at S.tables a.slots (map expression xs)) (combining (slice_get S.kinds r) n p r))
+    a c.args.layer.now (if c.combine_two.result then Next else Nothing) c.combine_two.new.top c.combine_two.new.layer
+    (λ kit s. ap (λ (es : List Expression). evaluated n (values_at S.tables a.slots (map expression es)) (combining (slice_get S.kinds r) n p r) (topped Running (at (Block p) a) c.args.layer.now s)) (sym is)) c.combine_two.ensures.done

@@ -14,6 +14,7 @@ use Rattle.evaluation.specs.declared.slot.Slot.{Slot}
 use Rattle.evaluation.specs.declared.slot.Slot.TheVariants.{Has}
 use Rattle.positions.specs.Layers.{PlainLayer, entering}
 use Rattle.own_statements.proofs.Paths.{come_gave, come_inside, come_join, come_moved, come_next, come_none, come_out, come_passed, found_as, run_join, stop_here, stop_join}
+use Rattle.own_statements.proofs.Shorts.{come_short}
 use Rattle.own_statements.proofs.Updates.{does_update}
 use Rattle.own_statements.specs.Paths.{Chooses, ComesTo, Does, IsInBlock, OnNext, StopsBy, here}
 use Rattle.own_statements.specs.Runs.{CallsTo, IsBlock}
@@ -416,7 +417,7 @@ run_block-loop-index-preserved-in-Next g t c =
       long = c.loop-index.invariant.long;
       kinds = c.perform_short.ensures.kinds ∙ c.loop-index.invariant.kinds;
       same = (c.in-Next.ensures.same_block.0 ∙ c.loop-index.invariant.same.0, c.in-Next.ensures.same_block.1 ∙ c.loop-index.invariant.same.1);
-      come = come_next S c.args.passes_syncs a c.args.layer.now p b c.loop-index.layer c.loop-index.invariant.come i found c.perform_short.new.top c.perform_short.new.layer c.in-Next.ensures.done;
+      come = come_short S c.args.passes_syncs a c.args.layer.now p b c.loop-index.layer c.loop-index.invariant.come i found c.perform_short.new.top c.perform_short.new.layer c.in-Next.ensures.same_block.0 c.in-Next.ensures.done;
     }
 
 pub run_block-returns-in-Gave-clause-ran : goal.run_block-returns-in-Gave-clause-ran
