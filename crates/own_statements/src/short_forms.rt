@@ -2,8 +2,8 @@
 ghost use Rattle.std.specs.Prelude.{◌≡◌, ◌+◌, ◌<◌, ◌^◌, ◌∷◌, [], ℕ, ℤ, List, IfSome, length, slice_get};
 ghost use Rattle.monoid_laws.specs.declared.Kind.{Kind};
 ghost use Rattle.meaning.specs.Tables.{Tables as TableList};
-ghost use Rattle.linked_program.specs.CodeView.{HasShort, IsFormOf, HasArity};
-ghost use Rattle.linked_program.specs.Linked.{Act, Acts, Linked, constant, binds, chooses, gives, updates, joined as joined_by, slot as slot_of};
+ghost use Rattle.linked_program.specs.CodeView.{HasShort, IsFormOf, HasArity, on_row as row_of};
+ghost use Rattle.linked_program.specs.Linked.{Act, Acts, Linked, cell_at, constant, binds, chooses, gives, updates, joined as joined_by, slot as slot_of};
 ghost use Rattle.evaluation.specs.declared.slot.Slot.{Slot as AnySlot};
 ghost use Rattle.evaluation.specs.Values.{NumberedOut, pure, value_at};
 ghost use Rattle.positions.specs.Activations.{PlainActivation};
@@ -22,7 +22,7 @@ use evaluation::slot::Slot;
 use evaluation::values::{joined, number_in};
 use input_tables::Tables;
 use layers::layer::Layer;
-use linked_program::code::{Instruction, Operation, ShortForm};
+use linked_program::code::{Instruction, Operation, RowCells, ShortForm};
 use meaning::tree::Operator;
 use positions::work::Position;
 use view_pool::View;
@@ -166,13 +166,13 @@ fn effect_of_operator<V: View>(
 {
     match short {
         ShortForm::ReturnSlots(operator, left, right) => {
-            giving(on_slots(*operator, *left, *right, slots))
+            giving(value_on_slots(*operator, *left, *right, slots))
         }
         ShortForm::ReturnSlotAndNumber(operator, left, right) => {
-            giving(on_left(*operator, *left, *right, slots))
+            giving(value_on_left(*operator, *left, *right, slots))
         }
         ShortForm::ReturnNumberAndSlot(operator, left, right) => {
-            giving(on_right(*operator, *left, *right, slots))
+            giving(value_on_right(*operator, *left, *right, slots))
         }
         ShortForm::BindSlots(name, operator, left, right) => {
             binding(*name, on_slots(*operator, *left, *right, slots))
@@ -184,13 +184,25 @@ fn effect_of_operator<V: View>(
             binding(*name, on_right(*operator, *left, *right, slots))
         }
         ShortForm::ChooseSlots(operator, left, right, first, second) => {
-            choice(on_slots(*operator, *left, *right, slots), *first, *second)
+            choice(
+                value_on_slots(*operator, *left, *right, slots),
+                *first,
+                *second,
+            )
         }
         ShortForm::ChooseSlotAndNumber(operator, left, right, first, second) => {
-            choice(on_left(*operator, *left, *right, slots), *first, *second)
+            choice(
+                value_on_left(*operator, *left, *right, slots),
+                *first,
+                *second,
+            )
         }
         ShortForm::ChooseNumberAndSlot(operator, left, right, first, second) => {
-            choice(on_right(*operator, *left, *right, slots), *first, *second)
+            choice(
+                value_on_right(*operator, *left, *right, slots),
+                *first,
+                *second,
+            )
         }
         _ => effect_on_row(layer, short, slots, tables),
     }
@@ -209,11 +221,11 @@ fn effect_on_row<V: View>(
 {
     match short {
         ShortForm::ReturnOnRow(operator, cells) => {
-            let value = on_row(layer, *operator, cells, slots, tables);
+            let value = value_on_row(layer, *operator, cells, slots, tables);
             unless_kept(layer, giving(value))
         }
         ShortForm::ReturnCell(table, slot, column) => {
-            let value = cell_there(layer, *table, *slot, *column, slots, tables);
+            let value = value_of_cell(layer, *table, *slot, *column, slots, tables);
             unless_kept(layer, giving(value))
         }
         ShortForm::BindOnRow(name, operator, cells) => {
@@ -225,7 +237,7 @@ fn effect_on_row<V: View>(
             unless_kept(layer, binding(*name, value))
         }
         ShortForm::ChooseOnRow(operator, cells, first, second) => {
-            let value = on_row(layer, *operator, cells, slots, tables);
+            let value = value_on_row(layer, *operator, cells, slots, tables);
             choice(value, *first, *second)
         }
         _ => Effect::Unknown,
@@ -269,6 +281,59 @@ fn on_right(operator: Operator, left: i64, right: usize, slots: &[Slot]) -> Opti
         → value_at all slots.now (joined_by operator (constant left) (slot_of right)) ≡ pure v) }
 {
     joined(operator, left, number_in(slots, right))
+}
+
+// The same, compiled by themselves: an operator's cases stand in the loop over statements for binds alone, so that it stays small
+// enough to be compiled into those that call it.
+#[inline(never)]
+fn value_on_slots(operator: Operator, left: usize, right: usize, slots: &[Slot]) -> Option<i64>
+    ensures value { IfSome result (λ v. (all : TableList)
+        → value_at all slots.now (joined_by operator (slot_of left) (slot_of right)) ≡ pure v) }
+{
+    on_slots(operator, left, right, slots)
+}
+
+#[inline(never)]
+fn value_on_left(operator: Operator, left: usize, right: i64, slots: &[Slot]) -> Option<i64>
+    ensures value { IfSome result (λ v. (all : TableList)
+        → value_at all slots.now (joined_by operator (slot_of left) (constant right)) ≡ pure v) }
+{
+    on_left(operator, left, right, slots)
+}
+
+#[inline(never)]
+fn value_on_right(operator: Operator, left: i64, right: usize, slots: &[Slot]) -> Option<i64>
+    ensures value { IfSome result (λ v. (all : TableList)
+        → value_at all slots.now (joined_by operator (constant left) (slot_of right)) ≡ pure v) }
+{
+    on_right(operator, left, right, slots)
+}
+
+#[inline(never)]
+fn value_on_row<V: View>(
+    layer: &Layer<V>,
+    operator: Operator,
+    cells: &RowCells,
+    slots: &[Slot],
+    tables: &Tables,
+) -> Option<i64>
+    ensures value { IfSome result (λ v. Fills (value_at tables.now.tables slots.now (row_of operator cells.now)) v layer.now layer.now) }
+{
+    on_row(layer, operator, cells, slots, tables)
+}
+
+#[inline(never)]
+fn value_of_cell<V: View>(
+    layer: &Layer<V>,
+    table: usize,
+    slot: usize,
+    column: usize,
+    slots: &[Slot],
+    tables: &Tables,
+) -> Option<i64>
+    ensures value { IfSome result (λ v. Fills (value_at tables.now.tables slots.now (cell_at table (slot_of slot) column)) v layer.now layer.now) }
+{
+    cell_there(layer, table, slot, column, slots, tables)
 }
 
 /// An update by one number, where it was found.

@@ -15,7 +15,7 @@ returns-in-ReturnSlots g c = record {
       let i = c.in-ReturnSlots in
       let q = subst (λ (f : ShortForm). IsFormOf kinds inner f x) i.is h in
       let e = joined i.operator (slot i.left) (slot i.right) in
-      subst (λ (y : Act). IsEffect kinds inner ts ss l y c.giving.result) (sym q.0) (c.giving.ensures.effect kinds inner ts ss l e (fills_at ts ss e l c.on_slots.result c.on_slots.ensures.value));
+      subst (λ (y : Act). IsEffect kinds inner ts ss l y c.giving.result) (sym q.0) (c.giving.ensures.effect kinds inner ts ss l e (fills_at ts ss e l c.value_on_slots.result c.value_on_slots.ensures.value));
 }
 
 pub returns-in-ReturnSlotAndNumber : goal.returns-in-ReturnSlotAndNumber
@@ -28,7 +28,7 @@ returns-in-ReturnSlotAndNumber g c = record {
       let q = subst (λ (f : ShortForm). IsFormOf kinds inner f x) i.is h in
       let same : i.right ≡ to_z w64 (of_z w64 i.right) = search rules in
       let e = joined i.operator (slot i.left) (constant (to_z w64 (of_z w64 i.right))) in
-      subst (λ (y : Act). IsEffect kinds inner ts ss l y c.giving-in-ReturnSlotAndNumber.result) (sym (q.0 ∙ ap (λ (n : ℤ). gives (joined i.operator (slot i.left) (constant n))) same)) (c.giving-in-ReturnSlotAndNumber.ensures.effect kinds inner ts ss l e (fills_at ts ss e l c.on_left.result c.on_left.ensures.value));
+      subst (λ (y : Act). IsEffect kinds inner ts ss l y c.giving-in-ReturnSlotAndNumber.result) (sym (q.0 ∙ ap (λ (n : ℤ). gives (joined i.operator (slot i.left) (constant n))) same)) (c.giving-in-ReturnSlotAndNumber.ensures.effect kinds inner ts ss l e (fills_at ts ss e l c.value_on_left.result c.value_on_left.ensures.value));
 }
 
 pub returns-in-ReturnNumberAndSlot : goal.returns-in-ReturnNumberAndSlot
@@ -41,7 +41,7 @@ returns-in-ReturnNumberAndSlot g c = record {
       let q = subst (λ (f : ShortForm). IsFormOf kinds inner f x) i.is h in
       let same : i.left ≡ to_z w64 (of_z w64 i.left) = search rules in
       let e = joined i.operator (constant (to_z w64 (of_z w64 i.left))) (slot i.right) in
-      subst (λ (y : Act). IsEffect kinds inner ts ss l y c.giving-in-ReturnNumberAndSlot.result) (sym (q.0 ∙ ap (λ (n : ℤ). gives (joined i.operator (constant n) (slot i.right))) same)) (c.giving-in-ReturnNumberAndSlot.ensures.effect kinds inner ts ss l e (fills_at ts ss e l c.on_right.result c.on_right.ensures.value));
+      subst (λ (y : Act). IsEffect kinds inner ts ss l y c.giving-in-ReturnNumberAndSlot.result) (sym (q.0 ∙ ap (λ (n : ℤ). gives (joined i.operator (constant n) (slot i.right))) same)) (c.giving-in-ReturnNumberAndSlot.ensures.effect kinds inner ts ss l e (fills_at ts ss e l c.value_on_right.result c.value_on_right.ensures.value));
 }
 
 pub returns-in-BindSlots : goal.returns-in-BindSlots
@@ -53,7 +53,7 @@ returns-in-BindSlots g c = record {
       let i = c.in-BindSlots in
       let q = subst (λ (f : ShortForm). IsFormOf kinds inner f x) i.is h in
       let e = joined i.operator (slot i.left) (slot i.right) in
-      subst (λ (y : Act). IsEffect kinds inner ts ss l y c.binding.result) (sym q.0) (c.binding.ensures.effect kinds inner ts ss l e (fills_at ts ss e l c.on_slots-in-BindSlots.result c.on_slots-in-BindSlots.ensures.value));
+      subst (λ (y : Act). IsEffect kinds inner ts ss l y c.binding.result) (sym q.0) (c.binding.ensures.effect kinds inner ts ss l e (fills_at ts ss e l c.on_slots.result c.on_slots.ensures.value));
 }
 
 pub returns-in-BindSlotAndNumber : goal.returns-in-BindSlotAndNumber
@@ -66,7 +66,7 @@ returns-in-BindSlotAndNumber g c = record {
       let q = subst (λ (f : ShortForm). IsFormOf kinds inner f x) i.is h in
       let same : i.right ≡ to_z w64 (of_z w64 i.right) = search rules in
       let e = joined i.operator (slot i.left) (constant (to_z w64 (of_z w64 i.right))) in
-      subst (λ (y : Act). IsEffect kinds inner ts ss l y c.binding-in-BindSlotAndNumber.result) (sym (q.0 ∙ ap (λ (n : ℤ). binds i.name (joined i.operator (slot i.left) (constant n))) same)) (c.binding-in-BindSlotAndNumber.ensures.effect kinds inner ts ss l e (fills_at ts ss e l c.on_left-in-BindSlotAndNumber.result c.on_left-in-BindSlotAndNumber.ensures.value));
+      subst (λ (y : Act). IsEffect kinds inner ts ss l y c.binding-in-BindSlotAndNumber.result) (sym (q.0 ∙ ap (λ (n : ℤ). binds i.name (joined i.operator (slot i.left) (constant n))) same)) (c.binding-in-BindSlotAndNumber.ensures.effect kinds inner ts ss l e (fills_at ts ss e l c.on_left.result c.on_left.ensures.value));
 }
 
 pub returns-in-BindNumberAndSlot : goal.returns-in-BindNumberAndSlot
@@ -79,7 +79,7 @@ returns-in-BindNumberAndSlot g c = record {
       let q = subst (λ (f : ShortForm). IsFormOf kinds inner f x) i.is h in
       let same : i.left ≡ to_z w64 (of_z w64 i.left) = search rules in
       let e = joined i.operator (constant (to_z w64 (of_z w64 i.left))) (slot i.right) in
-      subst (λ (y : Act). IsEffect kinds inner ts ss l y c.binding-in-BindNumberAndSlot.result) (sym (q.0 ∙ ap (λ (n : ℤ). binds i.name (joined i.operator (constant n) (slot i.right))) same)) (c.binding-in-BindNumberAndSlot.ensures.effect kinds inner ts ss l e (fills_at ts ss e l c.on_right-in-BindNumberAndSlot.result c.on_right-in-BindNumberAndSlot.ensures.value));
+      subst (λ (y : Act). IsEffect kinds inner ts ss l y c.binding-in-BindNumberAndSlot.result) (sym (q.0 ∙ ap (λ (n : ℤ). binds i.name (joined i.operator (constant n) (slot i.right))) same)) (c.binding-in-BindNumberAndSlot.ensures.effect kinds inner ts ss l e (fills_at ts ss e l c.on_right.result c.on_right.ensures.value));
 }
 
 pub returns-in-ChooseSlots : goal.returns-in-ChooseSlots
@@ -91,7 +91,7 @@ returns-in-ChooseSlots g c = record {
       let i = c.in-ChooseSlots in
       let q = subst (λ (f : ShortForm). IsFormOf kinds inner f x) i.is h in
       let e = joined i.operator (slot i.left) (slot i.right) in
-      subst (λ (y : Act). IsEffect kinds inner ts ss l y c.choice.result) (sym q.0) (c.choice.ensures.effect kinds inner ts ss l e (fills_at ts ss e l c.on_slots-in-ChooseSlots.result c.on_slots-in-ChooseSlots.ensures.value));
+      subst (λ (y : Act). IsEffect kinds inner ts ss l y c.choice.result) (sym q.0) (c.choice.ensures.effect kinds inner ts ss l e (fills_at ts ss e l c.value_on_slots-in-ChooseSlots.result c.value_on_slots-in-ChooseSlots.ensures.value));
 }
 
 pub returns-in-ChooseSlotAndNumber : goal.returns-in-ChooseSlotAndNumber
@@ -104,7 +104,7 @@ returns-in-ChooseSlotAndNumber g c = record {
       let q = subst (λ (f : ShortForm). IsFormOf kinds inner f x) i.is h in
       let same : i.right ≡ to_z w64 (of_z w64 i.right) = search rules in
       let e = joined i.operator (slot i.left) (constant (to_z w64 (of_z w64 i.right))) in
-      subst (λ (y : Act). IsEffect kinds inner ts ss l y c.choice-in-ChooseSlotAndNumber.result) (sym (q.0 ∙ ap (λ (n : ℤ). chooses (joined i.operator (slot i.left) (constant n)) (inner i.first) (inner i.second)) same)) (c.choice-in-ChooseSlotAndNumber.ensures.effect kinds inner ts ss l e (fills_at ts ss e l c.on_left-in-ChooseSlotAndNumber.result c.on_left-in-ChooseSlotAndNumber.ensures.value));
+      subst (λ (y : Act). IsEffect kinds inner ts ss l y c.choice-in-ChooseSlotAndNumber.result) (sym (q.0 ∙ ap (λ (n : ℤ). chooses (joined i.operator (slot i.left) (constant n)) (inner i.first) (inner i.second)) same)) (c.choice-in-ChooseSlotAndNumber.ensures.effect kinds inner ts ss l e (fills_at ts ss e l c.value_on_left-in-ChooseSlotAndNumber.result c.value_on_left-in-ChooseSlotAndNumber.ensures.value));
 }
 
 pub returns-in-ChooseNumberAndSlot : goal.returns-in-ChooseNumberAndSlot
@@ -117,5 +117,5 @@ returns-in-ChooseNumberAndSlot g c = record {
       let q = subst (λ (f : ShortForm). IsFormOf kinds inner f x) i.is h in
       let same : i.left ≡ to_z w64 (of_z w64 i.left) = search rules in
       let e = joined i.operator (constant (to_z w64 (of_z w64 i.left))) (slot i.right) in
-      subst (λ (y : Act). IsEffect kinds inner ts ss l y c.choice-in-ChooseNumberAndSlot.result) (sym (q.0 ∙ ap (λ (n : ℤ). chooses (joined i.operator (constant n) (slot i.right)) (inner i.first) (inner i.second)) same)) (c.choice-in-ChooseNumberAndSlot.ensures.effect kinds inner ts ss l e (fills_at ts ss e l c.on_right-in-ChooseNumberAndSlot.result c.on_right-in-ChooseNumberAndSlot.ensures.value));
+      subst (λ (y : Act). IsEffect kinds inner ts ss l y c.choice-in-ChooseNumberAndSlot.result) (sym (q.0 ∙ ap (λ (n : ℤ). chooses (joined i.operator (constant n) (slot i.right)) (inner i.first) (inner i.second)) same)) (c.choice-in-ChooseNumberAndSlot.ensures.effect kinds inner ts ss l e (fills_at ts ss e l c.value_on_right-in-ChooseNumberAndSlot.result c.value_on_right-in-ChooseNumberAndSlot.ensures.value));
 }

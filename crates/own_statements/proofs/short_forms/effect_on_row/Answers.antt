@@ -14,7 +14,7 @@ returns-in-ReturnOnRow g c = record {
       let i = c.in-ReturnOnRow in
       let q = subst (λ (f : ShortForm). IsFormOf kinds inner f x) i.is h in
       c.unless_kept.ensures.effect kinds inner ts ss x
-      (subst (λ (y : Act). IsEffect kinds inner ts ss l y c.giving.result) (sym q.0) (c.giving.ensures.effect kinds inner ts ss l (on_row i.operator i.cells) c.on_row-value.ensures.value));
+      (subst (λ (y : Act). IsEffect kinds inner ts ss l y c.giving.result) (sym q.0) (c.giving.ensures.effect kinds inner ts ss l (on_row i.operator i.cells) c.value_on_row-value.ensures.value));
 }
 
 pub returns-in-ReturnCell : goal.returns-in-ReturnCell
@@ -26,7 +26,7 @@ returns-in-ReturnCell g c = record {
       let i = c.in-ReturnCell in
       let q = subst (λ (f : ShortForm). IsFormOf kinds inner f x) i.is h in
       c.unless_kept-in-ReturnCell.ensures.effect kinds inner ts ss x
-      (subst (λ (y : Act). IsEffect kinds inner ts ss l y c.giving-in-ReturnCell.result) (sym q.0) (c.giving-in-ReturnCell.ensures.effect kinds inner ts ss l (cell_at i.table (slot i.slot) i.column) c.cell_there-value.ensures.value));
+      (subst (λ (y : Act). IsEffect kinds inner ts ss l y c.giving-in-ReturnCell.result) (sym q.0) (c.giving-in-ReturnCell.ensures.effect kinds inner ts ss l (cell_at i.table (slot i.slot) i.column) c.value_of_cell-value.ensures.value));
 }
 
 pub returns-in-BindOnRow : goal.returns-in-BindOnRow
@@ -38,7 +38,7 @@ returns-in-BindOnRow g c = record {
       let i = c.in-BindOnRow in
       let q = subst (λ (f : ShortForm). IsFormOf kinds inner f x) i.is h in
       c.unless_kept-in-BindOnRow.ensures.effect kinds inner ts ss x
-      (subst (λ (y : Act). IsEffect kinds inner ts ss l y c.binding.result) (sym q.0) (c.binding.ensures.effect kinds inner ts ss l (on_row i.operator i.cells) c.on_row-value-in-BindOnRow.ensures.value));
+      (subst (λ (y : Act). IsEffect kinds inner ts ss l y c.binding.result) (sym q.0) (c.binding.ensures.effect kinds inner ts ss l (on_row i.operator i.cells) c.on_row-value.ensures.value));
 }
 
 pub returns-in-BindCell : goal.returns-in-BindCell
@@ -50,7 +50,7 @@ returns-in-BindCell g c = record {
       let i = c.in-BindCell in
       let q = subst (λ (f : ShortForm). IsFormOf kinds inner f x) i.is h in
       c.unless_kept-in-BindCell.ensures.effect kinds inner ts ss x
-      (subst (λ (y : Act). IsEffect kinds inner ts ss l y c.binding-in-BindCell.result) (sym q.0) (c.binding-in-BindCell.ensures.effect kinds inner ts ss l (cell_at i.table (slot i.slot) i.column) c.cell_there-value-in-BindCell.ensures.value));
+      (subst (λ (y : Act). IsEffect kinds inner ts ss l y c.binding-in-BindCell.result) (sym q.0) (c.binding-in-BindCell.ensures.effect kinds inner ts ss l (cell_at i.table (slot i.slot) i.column) c.cell_there-value.ensures.value));
 }
 
 pub returns-in-ChooseOnRow : goal.returns-in-ChooseOnRow
@@ -61,5 +61,5 @@ returns-in-ChooseOnRow g c = record {
       let l = c.args.layer.now in
       let i = c.in-ChooseOnRow in
       let q = subst (λ (f : ShortForm). IsFormOf kinds inner f x) i.is h in
-      subst (λ (y : Act). IsEffect kinds inner ts ss l y c.choice.result) (sym q.0) (c.choice.ensures.effect kinds inner ts ss l (on_row i.operator i.cells) c.on_row-value-in-ChooseOnRow.ensures.value);
+      subst (λ (y : Act). IsEffect kinds inner ts ss l y c.choice.result) (sym q.0) (c.choice.ensures.effect kinds inner ts ss l (on_row i.operator i.cells) c.value_on_row-value-in-ChooseOnRow.ensures.value);
 }
