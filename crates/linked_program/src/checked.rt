@@ -13,7 +13,7 @@ ghost use Rattle.linked_program.specs.Linked.{kinds_of, main_number, procedure_n
 ghost use Rattle.linked_program.specs.CodeView.{AreCodesOf, HasShort, memo_of, slots_of, instruction_at};
 ghost use Rattle.linked_program.specs.Checked.{IsChecked, numbers_in, names_in, number_in};
 
-use crate::code::{Code, Instruction};
+use crate::code::{Code, Hints, Instruction};
 use crate::fitting::numbers_fit;
 use crate::initial::Initial;
 use crate::linking::{procedure_number, procedure_place};
@@ -176,6 +176,18 @@ impl Checked {
         match self.codes.get(procedure) {
             None => false,
             Some(code) => code.memo,
+        }
+    }
+
+    /// What may be tried with the instances of the procedure of that number. Nothing is claimed of it.
+    #[inline(always)]
+    pub fn hints(&self, procedure: usize) -> Hints {
+        match self.codes.get(procedure) {
+            None => Hints {
+                beside: false,
+                own: false,
+            },
+            Some(code) => code.hints,
         }
     }
 

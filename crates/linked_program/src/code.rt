@@ -84,11 +84,21 @@ pub struct CodeBlock {
     pub instructions: Vec<Instruction>,
 }
 
-/// A procedure's code: whether its instances are recorded, how many slots an instance has, its parameters first, and its blocks,
-/// of which the first is its body.
+/// What may be tried with the instances of a procedure. Nothing is claimed of it: who heeds a hint and who doesn't come to the same.
+#[derive(Clone, Copy)]
+pub struct Hints {
+    /// No statement spawns an instance, loops or reads a reducer, so an instance may be done beside the strand.
+    pub beside: bool,
+    /// Each statement calls no other procedure and reads nothing, so an instance's value may be found by recursion.
+    pub own: bool,
+}
+
+/// A procedure's code: whether its instances are recorded, how many slots an instance has, its parameters first, its blocks, of which the
+/// first is its body, and what may be tried with its instances.
 #[derive(Drop)]
 pub struct Code {
     pub memo: bool,
     pub slots: usize,
     pub blocks: Vec<CodeBlock>,
+    pub hints: Hints,
 }

@@ -4,6 +4,7 @@
 pub mod checked;
 pub mod code;
 mod fitting;
+mod hints;
 pub mod initial;
 pub mod knowledge;
 pub mod laws;

@@ -12,6 +12,7 @@ ghost use Rattle.linked_program.specs.Linked.{linked_body, Acts, loops, kinds_of
 ghost use Rattle.linked_program.specs.CodeView.{expression as plain, act, acts, IsCodeOf, AreBlocksOf, AreCodesOf, AreShort, AreShortBlocks};
 
 use crate::code::{Code, CodeBlock, Expression, Instruction, Operation, RowCells};
+use crate::hints::hints;
 use crate::shortening::short_form;
 use crate::tables::TableNames;
 use meaning::tree::{Action, Block, Declaration, Expr, Operator, Procedure, Statement};
@@ -390,6 +391,7 @@ fn code(
     declarations: &[Declaration],
     tables: &[TableNames],
     kinds: &[Kind],
+    number: usize,
     procedure: &Procedure,
 ) -> Result<Code, AllocError>
     requires kinds { kinds.now ≡ kinds_of (map decl declarations.now) }
@@ -397,10 +399,12 @@ fn code(
 {
     let slots = procedure.names.len();
     let blocks = code_blocks(alloc, declarations, tables, kinds, &procedure.blocks)?;
+    let hints = hints(number, blocks.as_slice());
     Ok(Code {
         memo: procedure.memo,
         slots,
         blocks,
+        hints,
     })
 }
 
@@ -431,7 +435,8 @@ fn codes_over(
     let mut made = Vec::new(alloc);
     for declaration in declarations {
         if let Declaration::Procedure(procedure) = declaration {
-            made.push(code(alloc, declarations, tables, kinds, procedure)?)?;
+            let number = made.len();
+            made.push(code(alloc, declarations, tables, kinds, number, procedure)?)?;
         }
     }
     Ok(made)
