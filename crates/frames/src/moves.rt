@@ -100,12 +100,12 @@ impl<V: View> Strand<V> {
         }
     }
 
-    /// Records may come of each iteration of a loop's second half with which a stolen strand begins: room for all of them is made as they
-    /// come. It takes no memory.
-    pub fn expect_records(&mut self, program: &Checked)
+    /// Records may come of each iteration of a loop's second half with which a stolen strand begins, but no more than `most`: room for all
+    /// of them is made as they come. It takes no memory.
+    pub fn expect_records(&mut self, program: &Checked, most: u32)
         ensures same { self.new ≡ self.old }
     {
-        expect_records(&mut self.machine, program);
+        expect_records(&mut self.machine, program, most);
     }
 
     /// At a spawn: takes out the parent and what waits below it, and goes on with the child alone, which is to be entered. It

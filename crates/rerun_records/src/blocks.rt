@@ -63,7 +63,7 @@ impl Blocks {
         note(&mut self.due, place);
     }
 
-    /// Drops the blocks that have the record at that place as part. It takes no memory.
+    /// Drops the blocks that have the record at that place as part, of which something doesn't hold or which is replaced. It takes no memory.
     pub(crate) fn drop_at(&mut self, place: usize)
         ensures remain { BlocksRemain self.new self.old }
         ensures free { IsFree place self.new.fine × IsFree place self.new.middle × IsFree place self.new.wide
@@ -73,6 +73,7 @@ impl Blocks {
         self.middle.drop_at(place, &mut self.due);
         self.wide.drop_at(place, &mut self.due);
         self.vast.drop_at(place, &mut self.due);
+        self.due.note_stale();
     }
 
     /// Drops all blocks.
@@ -251,6 +252,11 @@ impl Blocks {
     /// Whether many places are due: edits have dropped many blocks, or many records were put in.
     pub(crate) fn are_many_due(&self) -> bool {
         self.due.has_many()
+    }
+
+    /// About how many records edits have made stale since blocks were made, where they are more than a few.
+    pub(crate) fn many_stale(&self) -> Option<u32> {
+        self.due.many_stale()
     }
 
     /// Takes out the places of records that may be put into blocks.

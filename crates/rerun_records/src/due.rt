@@ -5,11 +5,16 @@ use std::mem;
 /// So many places are many.
 const MANY: usize = 256;
 
-/// Places, maybe some twice; or all, where there was no room for one more.
+/// Of so many records that edits have made stale a run is expected to make as many: it has room for fewer soon.
+const FEW: u32 = 64;
+
+/// Places, maybe some twice; or all, where there was no room for one more. And how many records edits have made stale, those counted again
+/// that several edits did.
 #[derive(Drop)]
 pub(crate) struct Due {
     places: Vec<u32>,
     all: bool,
+    stale: u32,
 }
 
 impl Due {
@@ -18,6 +23,7 @@ impl Due {
         Due {
             places: Vec::new(alloc),
             all: false,
+            stale: 0,
         }
     }
 
@@ -54,9 +60,24 @@ impl Due {
         self.places.len() >= MANY
     }
 
+    /// Notes that one more record is stale. It takes no memory.
+    #[inline(always)]
+    pub(crate) fn note_stale(&mut self) {
+        self.stale = self.stale.saturating_add(1);
+    }
+
+    /// How many records are stale, where they are more than a few. It takes no look at them.
+    pub(crate) fn many_stale(&self) -> Option<u32> {
+        if self.stale < FEW {
+            return None;
+        }
+        Some(self.stale)
+    }
+
     /// Takes the listed places out, and none is noted any more; where memory is refused all are noted, and none is listed.
     pub(crate) fn take(&mut self, alloc: Global) -> Vec<u32> {
         self.all = false;
+        self.stale = 0;
         if self.are_many() {
             return mem::replace(&mut self.places, Vec::new(alloc));
         }

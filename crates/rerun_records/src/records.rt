@@ -376,6 +376,16 @@ impl Records {
         self.blocks.are_many_due()
     }
 
+    /// About how many records a run may make, where these may be many: as many as there are instances where there are no records, else as
+    /// edits have made stale since blocks were made. It takes no look at them, and nothing rests on it.
+    pub fn expected(&self) -> Option<u32> {
+        if self.is_empty() {
+            return Some(u32::MAX);
+        }
+        let stale = self.blocks.many_stale()?;
+        Some(stale.min(self.len() as u32))
+    }
+
     /// Takes out the places of records that may be put into blocks: those put in since that was done last, and those of which a
     /// block was dropped, by one of its records.
     pub fn take_due(&mut self, alloc: Global) -> Vec<u32>

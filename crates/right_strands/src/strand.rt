@@ -96,15 +96,15 @@ impl<J: Run, V: View> RightStrand<J, V> {
         }
     }
 
-    /// Records may come of each iteration of a loop's second half with which a stolen strand begins, where they are the run's first: room
+    /// Records may come of each iteration of a loop's second half with which a stolen strand begins, where many are expected of the run: room
     /// for all of them is made as they come. It takes no memory.
     fn expect_records(&mut self, scene: &Scene<'_, J>)
         ensures same { self.new ≡ self.old }
     {
-        if !scene.records.is_empty() {
+        let Some(most) = scene.records.expected() else {
             return;
-        }
-        self.body.strand.expect_records(scene.program);
+        };
+        self.body.strand.expect_records(scene.program, most);
     }
 
     /// The strand of a stolen continuation, where another one has lain.

@@ -75,7 +75,7 @@ impl<V: View> Machine<V> {
         }
     }
 
-    /// The same, and where records of its iterations are the first, room for all of them is made as they come.
+    /// The same, and where many records may come of its iterations, room for all of them is made as they come.
     pub(crate) fn repeat_first(
         &mut self,
         alloc: Global,
@@ -95,26 +95,24 @@ impl<V: View> Machine<V> {
         Ok(())
     }
 
-    /// Records may come of all iterations of the loop whose instance was entered, where they are the first.
+    /// Records may come of all iterations of the loop whose instance was entered, or of those whose records edits have made stale.
     fn expect_records(&mut self, setting: Setting<'_>)
         ensures same { self.new ≡ self.old }
     {
-        match self.first_records(setting) {
+        match self.records_ahead(setting) {
             Some(records) => self.tally.expect(records),
             None => {}
         }
     }
 
-    /// How many records may come of the topmost instance, if it is a loop's over a memo procedure and there are no records yet.
-    fn first_records(&self, setting: Setting<'_>) -> Option<u32> {
-        if !setting.records.is_empty() {
-            return None;
-        }
+    /// How many records may come of the topmost instance, if it is a loop's over a memo procedure and many are expected.
+    fn records_ahead(&self, setting: Setting<'_>) -> Option<u32> {
+        let most = setting.records.expected()?;
         match self.top.work() {
             Work::Halves(site, _, share) => {
                 let code = loop_code(setting.program, self.top.procedure(), site);
                 if setting.program.is_memo(code.callee) {
-                    Some(share.count)
+                    Some(share.count.min(most))
                 } else {
                     None
                 }

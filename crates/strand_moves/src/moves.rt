@@ -117,13 +117,13 @@ fn begin_behind<V: View>(machine: &mut Machine<V>, task: Task, layer: Layer<V>)
     machine.phase = Phase::Running;
 }
 
-/// Records may come of each iteration of a loop's second half with which a stolen strand begins: room for all of them is made as they come. It
-/// takes no memory.
-pub fn expect_records<V: View>(machine: &mut Machine<V>, program: &Checked)
+/// Records may come of each iteration of a loop's second half with which a stolen strand begins, but no more than `most`: room for all of them
+/// is made as they come. It takes no memory.
+pub fn expect_records<V: View>(machine: &mut Machine<V>, program: &Checked, most: u32)
     ensures same { machine.new ≡ machine.old }
 {
     match records_ahead(machine, program) {
-        Some(records) => machine.tally.expect(records),
+        Some(records) => machine.tally.expect(records.min(most)),
         None => {}
     }
 }
