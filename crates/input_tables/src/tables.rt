@@ -117,6 +117,22 @@ impl Tables {
         &self.before
     }
 
+    /// Notes what other tables have at a row of the table of that number, as if the last edit had changed it from that: so who went by those
+    /// tables can be told of the row where these are another reading of them. It is no edit, so `edit_number` stays. Want of memory is
+    /// the only error, and nothing changes then.
+    pub fn note_row(&mut self, other: &Tables, number: usize, row: i64) -> Result<(), AllocError>
+        requires { number < length other.now.tables }
+        ensures noted { OnOk result (IsNoted other.now.tables number row self.new.was) }
+        ensures tables { self.new.tables ≡ self.old.tables }
+        ensures edits { self.new.edits ≡ self.old.edits }
+        ensures same { OnErr result (self.new ≡ self.old) }
+    {
+        let table = other.numbered(number);
+        self.before.make_room(table.column_count())?;
+        self.before.note(table, number, row);
+        Ok(())
+    }
+
     /// No table has more columns than that.
     pub fn most_columns(&self) -> usize
         ensures most { HasNoMore self.now.tables result }
