@@ -1,7 +1,8 @@
 // One round of starts.py: what a thread takes for work that one does in some ten milliseconds, with three more that are started so:
 // 0 none, 1 all by the first, 2 two by the first and the third by the first new one, 3 each by the one before it, 4 all by the first, each
-// kept on a processor of its own, 5 all by the first a fifth of a second before, which sleep until it wakes them. Prints microseconds until
-// all is done, and behind how many each thread began.
+// kept on a processor of its own, 5 all by the first a fifth of a second before, which sleep until it wakes them, 6 all by the first, which
+// sleep at once; it gives way until they have come, four times at most, and wakes them. Prints microseconds until all is done, and behind
+// how many each thread began.
 #define _GNU_SOURCE
 #include <pthread.h>
 #include <sched.h>
@@ -31,6 +32,7 @@ static void *life(void *arg);
 static pthread_mutex_t turn = PTHREAD_MUTEX_INITIALIZER;
 static pthread_cond_t rung = PTHREAD_COND_INITIALIZER;
 static int has_rung;
+static atomic_int come;
 static void sleep_until_rung(void) {
   pthread_mutex_lock(&turn);
   while (!has_rung) pthread_cond_wait(&rung, &turn);
@@ -48,7 +50,8 @@ static void *life(void *arg) {
   if (way == 2 && thread == 1) start(3);
   if (way == 3 && thread < THREADS - 1) start(thread + 1);
   if (way == 4) stay(thread);
-  if (way == 5 && thread) sleep_until_rung();
+  if (way == 6 && thread) atomic_fetch_add(&come, 1);
+  if ((way == 5 || way == 6) && thread) sleep_until_rung();
   begun[thread] = now() - begin_of_all;
   while (atomic_fetch_add(&next_unit, 1) < UNITS) unit();
   if (way == 2 && thread == 1) pthread_join(threads[3], NULL);
@@ -68,6 +71,10 @@ int main(int count, char **words) {
   if (way == 5) ring();
   else
     for (long thread = 1; thread <= started; thread++) start(thread);
+  if (way == 6) {
+    for (int time = 0; time < 4 && atomic_load(&come) < started; time++) sched_yield();
+    ring();
+  }
   life((void *)0);
   for (long thread = 1; thread <= started; thread++) pthread_join(threads[thread], NULL);
   printf("%ld", now() - begin_of_all);

@@ -12,7 +12,7 @@ import subprocess
 import tempfile
 
 HERE = os.path.dirname(os.path.realpath(__file__))
-WAYS = ["one thread", "all by the first", "the third by the first new one", "each by the one before", "each on a processor of its own", "kept asleep, and woken"]
+WAYS = ["one thread", "all by the first", "the third by the first new one", "each by the one before", "each on a processor of its own", "kept asleep, and woken", "asleep at once, and woken"]
 
 
 def main():

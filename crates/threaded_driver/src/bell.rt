@@ -15,6 +15,13 @@ const PATIENCE: u64 = 32;
 /// late.
 const PARTINGS: u32 = 128;
 
+/// How often the first worker gives way to the threads that it has started, before they may begin: behind each time one more of those that
+/// stay on its processor has come. Where others work a time may be a few milliseconds.
+const GATHERINGS: u32 = 4;
+
+/// How many microseconds a thread that has come waits at most until it may begin.
+const BEGINNING: u64 = 2000;
+
 /// How many microseconds its first nap takes, and by how many each further one is longer.
 const NAP: u64 = 100;
 
@@ -31,7 +38,9 @@ pub(crate) struct Bell {
     has_rung: AtomicBool,
     is_over: AtomicU64,
     nappers: AtomicU64,
-    // How many threads have nothing more to do with the run.
+    // How many threads have come to the run, whether they may begin, and how many have nothing more to do with it.
+    come: AtomicU64,
+    may_begin: AtomicU64,
     parted: AtomicU64,
 }
 
@@ -52,6 +61,8 @@ impl Bell {
             has_rung: AtomicBool::new(false),
             is_over: AtomicU64::new(0),
             nappers: AtomicU64::new(0),
+            come: AtomicU64::new(0),
+            may_begin: AtomicU64::new(0),
             parted: AtomicU64::new(0),
         }
     }
@@ -104,6 +115,31 @@ impl Bell {
     pub(crate) fn end(&self) {
         if self.is_over.swap(1, Ordering::SeqCst) == 0 && self.nappers.load(Ordering::SeqCst) != 0 {
             self.is_over.wake_all();
+        }
+    }
+
+    /// A thread has come to the run: it sleeps until it may begin. The system leaves a new thread on its maker's processor for as long as a
+    /// short run takes, but puts one that is woken where nobody works.
+    pub(crate) fn come<R: Wait>(&self, rt: &R) {
+        self.come.fetch_add(1, Ordering::SeqCst);
+        self.may_begin
+            .park_timeout(rt, 0, Duration::from_micros(BEGINNING));
+    }
+
+    /// Wakes the threads that have come: where there are to be so many, but for those that take long to.
+    pub(crate) fn begin(&self, threads: u64) {
+        self.gather(threads);
+        self.may_begin.store(1, Ordering::SeqCst);
+        self.may_begin.wake_all();
+    }
+
+    /// Gives way to threads until so many have come, a few times at most.
+    fn gather(&self, threads: u64) {
+        for _ in 0..GATHERINGS {
+            if self.come.load(Ordering::SeqCst) >= threads {
+                return;
+            }
+            thread::yield_now();
         }
     }
 

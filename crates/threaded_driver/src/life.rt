@@ -47,6 +47,7 @@ where
     R: Wait,
     G: Gate,
 {
+    floor.bell().come(rt);
     // Want of memory shows where the worker needs some.
     let _ = use_memory(floor.alloc);
     let mut seat = seat;
@@ -70,7 +71,7 @@ fn reserve_one(list: &mut Vec<u64>) -> Result<(), AllocError> {
     list.reserve(1)
 }
 
-/// The life of the first worker, from what it has found on, beside so many threads.
+/// The life of the first worker, from what it has found on, beside so many threads, which begin with it.
 pub(crate) fn live_beside_threads<J, D, V, R, G>(
     rt: &R,
     floor: &Floor<'_, J, D, V>,
@@ -90,6 +91,7 @@ where
     requires here { IsAt seat.here found }
     ensures left { 0 < result.left }
 {
+    floor.bell().begin(threads);
     let seat = live(rt, floor, number, seat, found, gate);
     floor.bell().await_parted(threads);
     seat
