@@ -27,6 +27,14 @@ const ADDED: [Look; 13] = [
     Look::Before(0, 3, Some(1), 4, 6),
 ];
 
+/// What the example, read anew, answers where it has noted the row that was taken out of the edited one.
+const NOTED: [Look; 4] = [
+    Edits(0),
+    Limit(0, 4),
+    Sum(0, 0, 6),
+    Look::Before(0, 3, None, 3, 5),
+];
+
 /// A table's name, its columns, and why it isn't added.
 type Wrong = (&'static str, &'static [&'static str], &'static str);
 
@@ -73,10 +81,20 @@ fn edit(rt: &impl Abort, tables: &mut Tables) {
     assert!(rt; tables.delete_at(same, 3).is_err());
 }
 
+/// The example, read anew, with what others have at that row of its table noted.
+fn noted(rt: &impl Abort, alloc: Global, others: &Tables, row: i64) -> Tables {
+    let mut tables = sales(rt, alloc);
+    let number = others.table("sales").expect(rt, "a table");
+    tables.note_row(others, number, row).expect(rt, "memory");
+    tables
+}
+
 #[test]
 fn tables_are_added(rt: HostRuntime) {
     let mut tables = sales(&rt, rt.alloc());
     add(&rt, rt.alloc(), &mut tables);
     edit(&rt, &mut tables);
     assert!(&rt; wrong_answer(&tables, &ADDED).is_none());
+    let anew = noted(&rt, rt.alloc(), &tables, 3);
+    assert!(&rt; wrong_answer(&anew, &NOTED).is_none());
 }
