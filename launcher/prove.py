@@ -18,6 +18,7 @@ import importlib.util
 import os
 import shutil
 import sys
+import threading
 
 TOP = os.path.dirname(os.path.dirname(os.path.realpath(__file__)))
 sys.path.insert(0, f"{TOP}/launcher")
@@ -53,6 +54,26 @@ def found_once(crate_type):
         return [*crate.libraries_below]
 
     crate_type.below = below
+
+
+def summed_once(crate_type):
+    """Has a sum of all that a crate of that type is made of, the crates below it too, read each of these once: by one build of the kit (13b) it
+    reads them along each way that leads down."""
+    made_of, at_work = crate_type.stamp, threading.local()
+
+    def stamp(crate):
+        sums = getattr(at_work, "sums", None)
+        if sums is None:
+            at_work.sums = {}
+            try:
+                return stamp(crate)
+            finally:
+                at_work.sums = None
+        if crate.folder not in sums:
+            sums[crate.folder] = made_of(crate)
+        return sums[crate.folder]
+
+    crate_type.stamp = stamp
 
 
 def kind_of(name):
@@ -152,9 +173,10 @@ def main():
         rt.in_lanes = work_first(rt, rt.in_lanes)
     if hasattr(getattr(rt, "rtlib", None), "Crate"):
         found_once(rt.rtlib.Crate)
+        if hasattr(rt.rtlib.Crate, "stamp"):
+            summed_once(rt.rtlib.Crate)
     with ProvedModules(here, os.path.dirname(os.path.dirname(path)), with_edits(here)) as modules:
-        if all(hasattr(rt, name) for name in together.NAMES):
-            together.begin(rt, modules)
+        together.begin(rt, modules)
         return rt.main(["ci"])
 
 

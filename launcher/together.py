@@ -1,7 +1,7 @@
 """Tries the must-fail edits of a crate together.
 
 `rt ci` tries each edit by a check of its own, over what a check of the crate from nothing has left, and most of what such a check takes is
-reading libraries. Here the check from nothing has edits in it already, each in the body of another function. A function is proved of its
+reading libraries. Of one build of the kit (13b) it does all that in one call for each crate. Here the check from nothing has edits in it already, each in the body of another function. A function is proved of its
 own body, and of the contracts of those that it calls, which no edit in a body changes: what is refused of it there is refused of it alone.
 Each edit that isn't, or that stands elsewhere than in a body, is tried by itself, as `rt ci` does it.
 """
@@ -12,8 +12,9 @@ import shutil
 import subprocess
 import tempfile
 
-# What of rt this goes by.
+# What of rt this goes by; and what of one that has one call for all edits of a crate.
 NAMES = ("seeded", "must_fail", "checked", "edits_of", "read_edit", "linked", "SEEDS", "REFUSED", "SETTLED")
+IN_ONE_CALL = ("must_fail_all", "must_fail", "checked", "edits_of", "read_edit")
 OWNER = re.compile(r"impl(?:<.*?>)? (?:(\w+)(?:<.*?>)? for )?(\w+)")
 HEAD = re.compile(r"( *)(?:pub(?:\([^)]*\))? )?(?:const )?(?:unsafe )?fn (\w+)")
 # What is said of a function that isn't proved for its own sake: it lacks answers, or some are refused, which an error in its files says.
@@ -76,7 +77,9 @@ class Together:
     others, and what is left of checks over which no edit is to be tried."""
 
     def __init__(self, rt, modules):
-        self.rt, self.seeded, self.must_fail, self.checked = rt, rt.seeded, rt.must_fail, rt.checked
+        self.rt, self.must_fail, self.checked = rt, rt.must_fail, rt.checked
+        self.seeded, self.in_turn = getattr(rt, "seeded", None), getattr(rt, "must_fail_all", None)
+        self.linked = getattr(rt, "linked", linked)
         self.modules, self.refused, self.done = modules, set(), set()
 
     def begin_with(self, crate, flags, start=None):
@@ -119,7 +122,7 @@ class Together:
         """The functions that a check of the crate with these texts refuses for their own sake."""
         with tempfile.TemporaryDirectory(prefix=f"rt-edits-{os.getpid()}-") as room:
             if is_whole:
-                self.rt.linked(seed, f"{room}/seed")
+                self.linked(seed, f"{room}/seed")
             ran = self.checked(crate, texts, flags, f"{room}/seed" if is_whole else seed)
         return fallen(ran.stdout) if ran.returncode == 1 else set()
 
@@ -143,7 +146,7 @@ class Together:
         """What a try of the edit comes to: by a check that had others in it, or by one of its own, over what the crate's proof has checked
         where it is the only one."""
         if edit in self.refused:
-            return self.rt.REFUSED, f"must-fail {crate.name}/{os.path.basename(edit)}: refused, as it must be, by a check with other edits"
+            return self.rt.REFUSED, words_of(crate, edit)
         if kept:
             return self.must_fail(crate, edit, flags, kept)
         with contextlib.suppress(OSError, shutil.Error), tempfile.TemporaryDirectory(prefix=f"rt-edits-{os.getpid()}-") as room:
@@ -153,11 +156,39 @@ class Together:
                     return found
         return self.must_fail(crate, edit, flags)
 
+    def tried_all(self, crate, edits, flags):
+        """What tries of all edits of a crate come to, by an rt that has one call for them. That begins with a check of the crate from nothing;
+        here they are over what the crate's proof has checked, where that is there."""
+        with contextlib.suppress(OSError, shutil.Error), tempfile.TemporaryDirectory(prefix=f"rt-edits-{os.getpid()}-") as room:
+            seed = f"{room}/seed"
+            os.mkdir(seed)
+            if self.modules.give(crate.name, seed):
+                refused = self.refused_together(crate, edits, flags, seed, True)
+                return [(True, words_of(crate, edit)) if edit in refused else self.tried_over(seed, crate, edit, flags) for edit in edits]
+        return self.in_turn(crate, edits, flags)
+
+    def tried_over(self, seed, crate, edit, flags):
+        """What a try of the edit comes to over what the seed has; one that isn't refused so is tried again from nothing."""
+        with tempfile.TemporaryDirectory(prefix=f"rt-edits-{os.getpid()}-") as room:
+            self.linked(seed, f"{room}/seed")
+            found = self.must_fail(crate, edit, flags, f"{room}/seed")
+        return found if found[0] else self.must_fail(crate, edit, flags)
+
     def check(self, crate, texts, flags, kept):
         """A check of the crate; none over what no edit was tried over alone, since the crate as it stands is proved by then."""
         if not texts and kept in self.done:
             return subprocess.CompletedProcess([], 0, "")
         return self.checked(crate, texts, flags, kept)
+
+
+def linked(folder, to):
+    """Makes a folder like another one, whose files are the same by a further name each."""
+    shutil.copytree(folder, to, copy_function=os.link)
+
+
+def words_of(crate, edit):
+    """What is said of an edit that a check with others refused."""
+    return f"must-fail {crate.name}/{os.path.basename(edit)}: refused, as it must be, by a check with other edits"
 
 
 def function_in(folder, texts):
@@ -191,6 +222,9 @@ def behind_proofs(tasks):
 
 
 def begin(rt, modules):
-    """Has that rt, which has all of NAMES, try edits together."""
-    it = Together(rt, modules)
-    rt.seeded, rt.must_fail, rt.checked = it.begin_with, it.tried, it.check
+    """Has that rt try edits together, if it has what this goes by."""
+    if all(hasattr(rt, name) for name in NAMES):
+        it = Together(rt, modules)
+        rt.seeded, rt.must_fail, rt.checked = it.begin_with, it.tried, it.check
+    elif all(hasattr(rt, name) for name in IN_ONE_CALL):
+        rt.must_fail_all = Together(rt, modules).tried_all

@@ -119,6 +119,21 @@ class Kit:
         return "alone", edit
 
 
+class OlderKit:
+    """What of an rt is gone by that has one call for all edits of a crate: it says of each whether it is refused, alone or not."""
+
+    def __init__(self, kit):
+        self.kit, self.edits_of, self.read_edit, self.checked = kit, kit.edits_of, kit.read_edit, kit.checked
+
+    def must_fail(self, _crate, edit, _flags, kept=None):
+        self.kit.asked.append(("tried", edit, bool(kept)))
+        return edit != "most", edit
+
+    def must_fail_all(self, _crate, edits, _flags):
+        self.kit.asked.append(("in turn",))
+        return [(True, edit) for edit in edits]
+
+
 class Edits(unittest.TestCase):
     def setUp(self):
         room = tempfile.TemporaryDirectory()
@@ -213,6 +228,20 @@ class Edits(unittest.TestCase):
         self.assertEqual(kit.seeded(self.crate, [], None), "seed")
         self.assertEqual(kit.must_fail(self.crate, "less", [])[0], "alone")
         self.assertEqual(kit.asked, [("seeded",), ("tried", "less")])
+
+    def test_edits_are_tried_over_the_proof_by_an_rt_with_one_call_for_them(self):
+        for has_modules in (False, True):
+            edits, kit = ["less", "larger", "most"], Kit(["less", "larger", "most"], SAID)
+            kit.has_modules, older = has_modules, OlderKit(kit)
+            together.begin(older, kit)
+            found = older.must_fail_all(self.crate, edits, [])
+            alone = [it for it in kit.asked if it[0] != "checked"]
+            if has_modules:
+                self.assertEqual([refused for refused, _ in found], [True, True, False])
+                self.assertEqual(alone, [("tried", "most", True), ("tried", "most", False)])
+                self.assertEqual([there for _, there in kit.over], [["modules"]])
+            else:
+                self.assertEqual((alone, len(found)), ([("in turn",)], 3))
 
     def test_the_check_that_edits_begin_with_waits_for_the_proof(self):
         tasks = {("toy", "proof"): (["low"], 9), ("toy", "seed"): (["low"], 0), ("toy", "edits", 0): ([("toy", "seed")], 9)}

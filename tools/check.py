@@ -174,11 +174,11 @@ def edits(crate, names):
     os.makedirs(kept, exist_ok=True)
     tried = [edit for edit in found if not names or os.path.basename(edit)[: -len(".edit")] in names]
     it = together.Together(rt, None)
-    it.refused = it.refused_together(crate, tried, ["--jobs", "1"], kept, True)
-    failed = len(wrong)
+    refused = it.refused_together(crate, tried, ["--jobs", "1"], kept, True)
+    failed, good = len(wrong), [getattr(rt, name, True) for name in ("REFUSED", "AT_LIMIT")]
     for edit in tried:
-        kind, said = it.tried(crate, edit, ["--jobs", "1"], kept)
-        failed += kind not in (rt.REFUSED, rt.AT_LIMIT)
+        kind, said = (good[0], together.words_of(crate, edit)) if edit in refused else it.must_fail(crate, edit, ["--jobs", "1"], kept)
+        failed += kind not in good
         print(said, flush=True)
     return int(failed > 0)
 
