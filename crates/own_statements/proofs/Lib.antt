@@ -1,6 +1,5 @@
 pub mod AtOnce
 pub mod Beside
-pub mod Choices
 pub mod Paths
 pub mod Placed
 pub mod Shorts

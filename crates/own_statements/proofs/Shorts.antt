@@ -1,18 +1,16 @@
 -- What the short forms of statements say of their meaning.
-use Rattle.std.proofs.Common.{◌≡◌, ◌∙◌, ◌<◌, ℕ, zero, suc, ℤ, Bool, List, [], ◌∷◌, Option, Some, None, IfSome, length, map, slice_get, refl, sym, ap, subst, inl, inr, arith}
+use Rattle.std.proofs.Common.{◌≡◌, ◌∙◌, ◌<◌, ℕ, zero, suc, ℤ, Bool, List, [], ◌∷◌, Some, None, length, map, slice_get, if◌then◌else◌, refl, sym, ap, subst, inl, inr, arith}
 use Rattle.std.specs.Prelude.{Vec}
 use Rattle.std.specs.declared.alloc.Global.{Global}
 use Rattle.monoid_laws.specs.declared.Kind.{Kind}
-use Rattle.meaning.specs.Tables.{Tables}
 use Rattle.linked_program.specs.declared.code.Expression.{Expression}
 use Rattle.linked_program.specs.declared.code.Instruction.{Instruction}
 use Rattle.linked_program.specs.declared.code.Operation.{Operation}
 use Rattle.linked_program.specs.declared.code.Operation.TheVariants as o
 use Rattle.linked_program.specs.Linked.{Linked, Acts, ends, steps, syncs, updates, binds, chooses, gives}
 use Rattle.linked_program.specs.CodeView.{expression, act, HasArity, instruction_at}
-use Rattle.evaluation.specs.declared.slot.Slot.{Slot}
 use Rattle.evaluation.specs.declared.slot.Slot.TheVariants.{Has}
-use Rattle.evaluation.specs.Values.{NumberedOut, pure, value_at, values_at}
+use Rattle.evaluation.specs.Values.{NumberedOut, value_at, values_at}
 use Rattle.positions.specs.declared.phase.Phase.TheVariants.{Running, Returning}
 use Rattle.positions.specs.declared.work.Position.{Position}
 use Rattle.positions.specs.declared.work.Work.TheVariants.{Block}
@@ -20,14 +18,15 @@ use Rattle.positions.specs.Code.{instruction_inside}
 use Rattle.positions.specs.Setting.{Setting}
 use Rattle.positions.specs.Activations.{PlainActivation, at, next_of, bound}
 use Rattle.positions.specs.Layers.{PlainLayer}
-use Rattle.positions.specs.Advance.{evaluated, answered, noted, binding, choosing, combining, giving, performed}
-use Rattle.positions.specs.Strands.{PlainStrand}
+use Rattle.positions.specs.Advance.{evaluated, answered, noted, binding, choosing, combining, giving, moved_on, performed}
+use Rattle.positions.specs.Strands.{PlainStrand, is_entry}
 use Rattle.own_statements.specs.declared.statements.Did.{Did}
 use Rattle.own_statements.specs.declared.statements.Did.TheVariants.{Nothing, Next, Moved, Gave}
-use Rattle.own_statements.specs.Effects.{Comes}
+use Rattle.own_statements.specs.declared.short_forms.Target.{Target}
+use Rattle.own_statements.specs.declared.short_forms.Target.TheVariants as target
+use Rattle.own_statements.specs.Effects.{Comes, act_for, goes_on}
 use Rattle.own_statements.specs.Fills.{Fills}
 use Rattle.own_statements.specs.Paths.{ComesTo, Does, topped}
-use Rattle.own_statements.proofs.AtOnce.{pure_fills}
 use Rattle.own_statements.proofs.Paths.{does_as, come_next, come_passed}
 use Rattle.own_statements.proofs.Updates.{does_update}
 
@@ -80,6 +79,16 @@ is_choice (o.Bind x y) e b c is = absurd cc
 is_choice (o.Loop x low high grain f xs) e b c is = absurd cc
 is_choice (o.Return x) e b c is = absurd cc
 
+is_sync : (op : Operation) → act numbered op ≡ syncs → op ≡ o.Sync
+is_sync o.Sync is = refl
+is_sync (o.If y b c) is = absurd cc
+is_sync (o.Update s xs) is = absurd cc
+is_sync (o.Enter x way f xs) is = absurd cc
+is_sync (o.Read x s) is = absurd cc
+is_sync (o.Bind x y) is = absurd cc
+is_sync (o.Loop x low high grain f xs) is = absurd cc
+is_sync (o.Return x) is = absurd cc
+
 -- ---- its meaning
 
 module _ (S : Setting) (passes : Bool) (p : Position) (f : Bool → PlainStrand → PlainStrand) (a : PlainActivation) (l : PlainLayer) where
@@ -106,32 +115,31 @@ module _ (S : Setting) (passes : Bool) (p : Position) (n : ℕ) (a : PlainActiva
       does_update S passes p n r found.0 found.0.items op a l did b m found.1 refl
       (subst (λ (ys : List Linked). Does passes p (λ kit. evaluated n (values_at S.tables a.slots ys) (combining (slice_get S.kinds r) n p r)) a l did b m) found.2 h)
 
-  pub short_bind : (x : ℕ) (e : Linked) → act numbered op ≡ binds x e
-      → Does passes p (λ kit. evaluated n (value_at S.tables a.slots e) (binding p x)) a l did b m
-      → Does passes p (λ kit. performed S kit p n op) a l did b m
-  short_bind x e is h =
-      let found = is_bind op x e is in
-      subst (λ (q : Operation). Does passes p (λ kit. performed S kit p n q) a l did b m) (sym found.1)
-      (does_as S passes p (λ (kit : Bool). evaluated n (value_at S.tables a.slots (expression found.0)) (binding p x)) (λ kit. performed S kit p n (o.Bind x found.0)) a l did b m (λ kit s. refl)
-      (subst (λ (z : Linked). Does passes p (λ kit. evaluated n (value_at S.tables a.slots z) (binding p x)) a l did b m) found.2 h))
-
-  pub short_give : (e : Linked) → act numbered op ≡ gives e
-      → Does passes p (λ kit. evaluated n (value_at S.tables a.slots e) giving) a l did b m
-      → Does passes p (λ kit. performed S kit p n op) a l did b m
-  short_give e is h =
-      let found = is_give op e is in
-      subst (λ (q : Operation). Does passes p (λ kit. performed S kit p n q) a l did b m) (sym found.1)
-      (does_as S passes p (λ (kit : Bool). evaluated n (value_at S.tables a.slots (expression found.0)) giving) (λ kit. performed S kit p n (o.Return found.0)) a l did b m (λ kit s. refl)
-      (subst (λ (z : Linked). Does passes p (λ kit. evaluated n (value_at S.tables a.slots z) giving) a l did b m) found.2 h))
-
-  pub short_choice : (e : Linked) (first second : ℕ) → act numbered op ≡ chooses e (numbered first) (numbered second)
-      → Comes S passes p (λ kit. evaluated n (value_at S.tables a.slots e) (choosing p first second)) a l did b m
+  pub short_value : (t : Target) (e : Linked) → act numbered op ≡ act_for numbered e t
+      → Comes S passes p (λ kit. evaluated n (value_at S.tables a.slots e) (goes_on p t)) a l did b m
       → Comes S passes p (λ kit. performed S kit p n op) a l did b m
-  short_choice e first second is h =
+  short_value (target.Slot x) e is h =
+      let found = is_bind op x e is in
+      subst (λ (q : Operation). Comes S passes p (λ kit. performed S kit p n q) a l did b m) (sym found.1)
+      (comes_as S passes p (λ (kit : Bool). evaluated n (value_at S.tables a.slots (expression found.0)) (binding p x)) a l (λ kit. performed S kit p n (o.Bind x found.0)) did b m (λ kit s. refl)
+      (subst (λ (z : Linked). Comes S passes p (λ kit. evaluated n (value_at S.tables a.slots z) (binding p x)) a l did b m) found.2 h))
+  short_value (target.Blocks first second) e is h =
       let found = is_choice op e first second is in
       subst (λ (q : Operation). Comes S passes p (λ kit. performed S kit p n q) a l did b m) (sym found.1)
       (comes_as S passes p (λ (kit : Bool). evaluated n (value_at S.tables a.slots (expression found.0)) (choosing p first second)) a l (λ kit. performed S kit p n (o.If found.0 first second)) did b m (λ kit s. refl)
       (subst (λ (z : Linked). Comes S passes p (λ kit. evaluated n (value_at S.tables a.slots z) (choosing p first second)) a l did b m) found.2 h))
+  short_value target.Back e is h =
+      let found = is_give op e is in
+      subst (λ (q : Operation). Comes S passes p (λ kit. performed S kit p n q) a l did b m) (sym found.1)
+      (comes_as S passes p (λ (kit : Bool). evaluated n (value_at S.tables a.slots (expression found.0)) giving) a l (λ kit. performed S kit p n (o.Return found.0)) did b m (λ kit s. refl)
+      (subst (λ (z : Linked). Comes S passes p (λ kit. evaluated n (value_at S.tables a.slots z) giving) a l did b m) found.2 h))
+
+  pub short_sync : act numbered op ≡ syncs
+      → Does passes p (λ kit s. if is_entry s then s else moved_on p s) a l did b m
+      → Does passes p (λ kit. performed S kit p n op) a l did b m
+  short_sync is h =
+      subst (λ (q : Operation). Does passes p (λ kit. performed S kit p n q) a l did b m) (sym (is_sync op is))
+      (does_as S passes p (λ (kit : Bool). (λ s. if is_entry s then s else moved_on p s)) (λ kit. performed S kit p n o.Sync) a l did b m (λ kit s. refl) h)
 
 -- an instance comes to the next statement of its block by a short form
 pub come_short : (S : Setting) (passes : Bool) (a : PlainActivation) (l : PlainLayer) (p : Position) (b : PlainActivation) (m : PlainLayer) → ComesTo S passes a l None (at (Block p) b) m
@@ -148,18 +156,6 @@ pub taken : (n : ℕ) (xs : List Kind) (r : ℕ) → HasArity n (slice_get xs r)
 taken n [] r h = absurd h
 taken n (x ∷ xs) zero h = omega arith
 taken n (x ∷ xs) (suc r) h = let rest = taken n xs r h in omega (arith, rest)
-
--- what is said over whatever tables, over these
-pub at_tables : (ts : Tables) (slots : List Slot) (e : Linked) (res : Option ℤ) → IfSome res (λ v. (all : Tables) → value_at all slots e ≡ pure v) → IfSome res (λ v. value_at ts slots e ≡ pure v)
-at_tables ts slots e None h = tt
-at_tables ts slots e (Some v) h = h ts
-
-pure_found : (o : NumberedOut ℤ) (res : Option ℤ) (l : PlainLayer) → IfSome res (λ v. o ≡ pure v) → IfSome res (λ v. Fills o v l l)
-pure_found o None l h = tt
-pure_found o (Some v) l h = pure_fills o v l h
-
-pub fills_at : (ts : Tables) (slots : List Slot) (e : Linked) (l : PlainLayer) (res : Option ℤ) → IfSome res (λ v. (all : Tables) → value_at all slots e ≡ pure v) → IfSome res (λ v. Fills (value_at ts slots e) v l l)
-fills_at ts slots e l res h = pure_found (value_at ts slots e) res l (at_tables ts slots e res h)
 
 module _ (passes : Bool) (p : Position) (n : ℕ) (a : PlainActivation) (l : PlainLayer) (o : NumberedOut ℤ) (v : ℤ) (found : Fills o v l l) where
   pub binds_found : (x : ℕ) → Does passes p (λ kit. evaluated n o (binding p x)) a l Next (bound (Some x) (Has v) a) l

@@ -1,48 +1,78 @@
--- What a statement comes to by its short form.
-use Rattle.std.specs.Prelude.{◌≡◌, ◌⊎◌, ℕ, ℤ, Bool, List, [], ◌∷◌, None, length, slice_get}
+-- What a statement comes to by its short form, or by what it does.
+use Rattle.std.specs.Prelude.{◌≡◌, ◌⊎◌, ℕ, ℤ, Bool, List, [], ◌∷◌, None, length, map, slice_get}
 use Rattle.monoid_laws.specs.declared.Kind.{Kind}
 use Rattle.meaning.specs.Tables.{Tables}
-use Rattle.linked_program.specs.CodeView.{HasArity, instruction_at}
-use Rattle.linked_program.specs.Linked.{Linked, Act, Acts, binds, chooses, gives, updates}
+use Rattle.linked_program.specs.CodeView.{HasArity, expression, instruction_at}
+use Rattle.linked_program.specs.Linked.{Linked, Act, Acts, binds, chooses, gives, syncs, updates}
 use Rattle.evaluation.specs.declared.slot.Slot.{Slot}
-use Rattle.evaluation.specs.Values.{pure, value_at, values_at}
+use Rattle.evaluation.specs.Values.{applied, pure, value_at, values_at}
 use Rattle.positions.specs.declared.work.Position.{Position}
 use Rattle.positions.specs.Setting.{Setting}
 use Rattle.positions.specs.Activations.{PlainActivation}
+use Rattle.positions.specs.Advance.{binding, choosing, giving}
 use Rattle.positions.specs.Layers.{PlainLayer}
 use Rattle.positions.specs.Strands.{PlainStrand}
 use Rattle.own_statements.specs.declared.short_forms.Effect.{Effect}
 use Rattle.own_statements.specs.declared.short_forms.Effect.TheVariants as effect
+use Rattle.own_statements.specs.declared.short_forms.Target.{Target}
+use Rattle.own_statements.specs.declared.short_forms.Target.TheVariants as target
+use Rattle.own_statements.specs.declared.short_forms.Value.{Value}
+use Rattle.own_statements.specs.declared.short_forms.Value.TheVariants as value
 use Rattle.own_statements.specs.declared.statements.Did.{Did}
 use Rattle.own_statements.specs.declared.statements.Did.TheVariants as did
 use Rattle.own_statements.specs.declared.statements.Chosen.TheVariants as chosen
-use Rattle.own_statements.specs.Fills.{Fills}
+use Rattle.own_statements.specs.Fills.{Fills, Reads}
 use Rattle.own_statements.specs.Paths.{Chooses, Does}
+
+-- ---- values
+
+-- a statement's value, as far as it is known, comes to that number
+abbrev pub HasValue : Tables → List Slot → PlainLayer → Value → ℤ → Type 0
+HasValue ts slots l value.Later v = ⊥
+HasValue ts slots l (value.Found w) v = v ≡ w
+HasValue ts slots l (value.Joined op x y) v = applied op x y ≡ pure v
+HasValue ts slots l (value.Of x) v = Fills (value_at ts slots (expression x.now)) v l l
+
+-- where it comes to a number, that is the value of the expression, and nothing is to be noted for it
+abbrev pub Finds : Tables → List Slot → PlainLayer → Value → Linked → Type 0
+Finds ts slots l w e = (v : ℤ) → HasValue ts slots l w v → Fills (value_at ts slots e) v l l
+
+-- the same of a part of an expression, where readings are kept and where they are not
+abbrev pub IsPart : Bool → Tables → List Slot → Value → Linked → Type 0
+IsPart keeps ts slots value.Later e = Unit {0}
+IsPart keeps ts slots (value.Found v) e = Reads keeps (value_at ts slots e) v
+IsPart keeps ts slots (value.Joined op x y) e = (v : ℤ) → applied op x y ≡ pure v → Reads keeps (value_at ts slots e) v
+IsPart keeps ts slots (value.Of x) e = Unit {0}
+
+-- ---- what is done
+
+-- what is done with a value, where `inner` is the plain block of a number
+abbrev pub act_for : (ℕ → Acts) → Linked → Target → Act
+act_for inner e (target.Slot x) = binds x e
+act_for inner e (target.Blocks b c) = chooses e (inner b) (inner c)
+act_for inner e target.Back = gives e
+
+-- the same by what it means, for the statement at a position
+abbrev pub goes_on : Position → Target → ℤ → PlainStrand → PlainStrand
+goes_on p (target.Slot x) = binding p x
+goes_on p (target.Blocks b c) = choosing p b c
+goes_on p target.Back = giving
 
 -- it updates a reducer by as many values as that takes, which are these numbers and read nothing
 abbrev pub UpdatesBy : List Kind → Tables → List Slot → Act → ℕ → List ℤ → Type 0
 UpdatesBy kinds ts slots act r vs = (es : List Linked) × (act ≡ updates r es) × (values_at ts slots es ≡ pure vs) × HasArity (length vs) (slice_get kinds r)
 
--- it puts a value into a slot
-abbrev pub BindsBy : Tables → List Slot → PlainLayer → Act → ℕ → ℤ → Type 0
-BindsBy ts slots l act x v = (e : Linked) × (act ≡ binds x e) × Fills (value_at ts slots e) v l l
-
--- it gives a value back
-abbrev pub GivesBack : Tables → List Slot → PlainLayer → Act → ℤ → Type 0
-GivesBack ts slots l act v = (e : Linked) × (act ≡ gives e) × Fills (value_at ts slots e) v l l
-
--- it chooses one of two blocks by a value
-abbrev pub ChoosesBy : (ℕ → Acts) → Tables → List Slot → PlainLayer → Act → ℤ → ℕ → ℕ → Type 0
-ChoosesBy inner ts slots l act v b c = (e : Linked) × (act ≡ chooses e (inner b) (inner c)) × Fills (value_at ts slots e) v l l
+-- something is done with a value
+abbrev pub HasTarget : (ℕ → Acts) → Tables → List Slot → PlainLayer → Act → Value → Target → Type 0
+HasTarget inner ts slots l act w t = (e : Linked) × (act ≡ act_for inner e t) × Finds ts slots l w e
 
 abbrev pub IsEffect : List Kind → (ℕ → Acts) → Tables → List Slot → PlainLayer → Act → Effect → Type 0
-IsEffect kinds inner ts slots l act effect.Unknown = Unit {0}
-IsEffect kinds inner ts slots l act effect.Noted = Unit {0}
+IsEffect kinds inner ts slots l act effect.Other = Unit {0}
+IsEffect kinds inner ts slots l act effect.Sync = act ≡ syncs
 IsEffect kinds inner ts slots l act (effect.One r v) = UpdatesBy kinds ts slots act r (v ∷ [])
 IsEffect kinds inner ts slots l act (effect.Two r v w) = UpdatesBy kinds ts slots act r (v ∷ w ∷ [])
-IsEffect kinds inner ts slots l act (effect.Bound x v) = BindsBy ts slots l act x v
-IsEffect kinds inner ts slots l act (effect.Chosen v b c) = ChoosesBy inner ts slots l act v b c
-IsEffect kinds inner ts slots l act (effect.Gave v) = GivesBack ts slots l act v
+IsEffect kinds inner ts slots l act (effect.Many r xs) = act ≡ updates r (map expression xs.now)
+IsEffect kinds inner ts slots l act (effect.Value w t) = HasTarget inner ts slots l act w t
 
 -- the second block of a choice, in which there is nothing, is passed by
 abbrev pub PassesBy : Setting → Bool → Position → (Bool → PlainStrand → PlainStrand) → PlainActivation → PlainLayer → PlainActivation → PlainLayer → Type 0

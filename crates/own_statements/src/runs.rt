@@ -9,12 +9,10 @@ ghost use Rattle.activations.specs.Given.{lent};
 ghost use Rattle.own_statements.specs.Paths.{ComesTo, IsInBlock};
 ghost use Rattle.own_statements.specs.Runs.{CallsTo, EndsBy, RunsTo, IsBlock, IsBody};
 
-use crate::combining::combine_some;
 use crate::filling::fills;
 use crate::ran::{Ended, Inside, Ran};
 use crate::recursion::{Enters, Own, called, calls_itself, is_spawn};
-use crate::short_forms::perform_short;
-use crate::statements::{Chosen, Did, Here, choose, perform_alone};
+use crate::statements::{Did, perform};
 use activations::activation::{Activation, FIRST, next_of};
 use activations::code::instructions;
 use activations::setting::Setting;
@@ -174,49 +172,25 @@ fn run_block<'a, V: View>(
     while index < statements.len() {
         let position = Position { block, index };
         let statement = &statements[index];
-        match perform_short(layer, setting, passes_syncs, position, statement, top) {
+        match perform(
+            layer,
+            setting,
+            passes_syncs,
+            position,
+            statement,
+            top,
+            numbers,
+        ) {
             Did::Next => {
                 index += 1;
                 continue;
             }
+            Did::Moved => return ran_to(setting, top),
             Did::Gave(value) => {
                 top.stand(position);
                 return Ran::Gave(value);
             }
-            Did::Moved => return ran_to(setting, top),
             Did::Nothing => {}
-        }
-        if let Operation::Update(reducer, values) = &statement.operation {
-            let here = Here {
-                statement: statement.number,
-                position,
-                passes_syncs,
-            };
-            let values = values.as_slice();
-            if !combine_some(layer, setting, here, *reducer, values, top, numbers) {
-                top.stand(position);
-                return Ran::Stopped(0);
-            }
-            index += 1;
-            continue;
-        }
-        if let Operation::If(condition, first, second) = &statement.operation {
-            let here = Here {
-                statement: statement.number,
-                position,
-                passes_syncs,
-            };
-            match choose(layer, setting, here, condition, *first, *second, top) {
-                Chosen::Passed => {
-                    index += 1;
-                    continue;
-                }
-                Chosen::Inside => return ran_to(setting, top),
-                Chosen::Nothing => {
-                    top.stand(position);
-                    return Ran::Stopped(0);
-                }
-            }
         }
         if let Operation::Enter(_, _, _, _) = &statement.operation {
             let site = Site {
@@ -235,18 +209,8 @@ fn run_block<'a, V: View>(
                 Inside::Stays(waiting) => return Ran::Stopped(waiting),
             }
         }
-        match perform_alone(layer, setting, passes_syncs, position, statement, top) {
-            Did::Next => index += 1,
-            Did::Moved => return ran_to(setting, top),
-            Did::Nothing => {
-                top.stand(position);
-                return Ran::Stopped(0);
-            }
-            Did::Gave(value) => {
-                top.stand(position);
-                return Ran::Gave(value);
-            }
-        }
+        top.stand(position);
+        return Ran::Stopped(0);
     }
     go_behind(top);
     ran_to(setting, top)

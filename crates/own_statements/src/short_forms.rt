@@ -1,429 +1,314 @@
-//! Statements that are done by their short forms.
-ghost use Rattle.std.specs.Prelude.{◌≡◌, ◌+◌, ◌<◌, ◌^◌, ◌∷◌, [], ℕ, ℤ, List, IfSome, length, slice_get};
+//! What statements come to, by their short forms or by what they do.
+ghost use Rattle.std.specs.Prelude.{◌≡◌, ℕ, IfSome};
 ghost use Rattle.monoid_laws.specs.declared.Kind.{Kind};
 ghost use Rattle.meaning.specs.Tables.{Tables as TableList};
-ghost use Rattle.linked_program.specs.CodeView.{HasShort, IsFormOf, HasArity, on_row as row_of};
-ghost use Rattle.linked_program.specs.Linked.{Act, Acts, Linked, cell_at, constant, binds, chooses, gives, updates, joined as joined_by, slot as slot_of};
+ghost use Rattle.linked_program.specs.CodeView.{IsFormOf, act as act_of, on_row as row_of};
+ghost use Rattle.linked_program.specs.Linked.{Act, Acts, cell_at, constant, joined as joined_by, slot as slot_of};
 ghost use Rattle.evaluation.specs.declared.slot.Slot.{Slot as AnySlot};
-ghost use Rattle.evaluation.specs.Values.{NumberedOut, pure, value_at};
-ghost use Rattle.positions.specs.Activations.{PlainActivation};
 ghost use Rattle.positions.specs.Layers.{PlainLayer};
-ghost use Rattle.positions.specs.Advance.{evaluated, choosing, combining, performed};
-ghost use Rattle.activations.specs.Given.{lent};
-ghost use Rattle.own_statements.specs.Effects.{Comes, IsEffect};
-ghost use Rattle.own_statements.specs.Fills.{Fills};
-ghost use Rattle.own_statements.specs.Paths.{Does, OnNext, IsInBlock};
+ghost use Rattle.own_statements.specs.Effects.{Finds, HasValue, IsEffect, act_for};
 
-use crate::found::{cell_there, number_there, on_row};
-use crate::statements::{Chosen, Did, Here, bind_evaluated, give_evaluated, go_by};
-use activations::activation::Activation;
-use activations::setting::Setting;
+use crate::found::{cell_at_once, given_at_once, two_at_once};
 use evaluation::slot::Slot;
 use evaluation::values::{joined, number_in};
 use input_tables::Tables;
 use layers::layer::Layer;
-use linked_program::code::{Instruction, Operation, RowCells, ShortForm};
+use linked_program::code::{Expression, Instruction, Operation, RowCells, ShortForm};
 use meaning::tree::Operator;
-use positions::work::Position;
 use view_pool::View;
 
-/// What a statement comes to by its short form: nothing is known of it; what is read for it has to be noted; a reducer is updated by one
-/// number, or by two; a slot gets a value; one of two blocks is chosen by a value; or a value is given back.
+/// What is done with a statement's value: it goes into a slot, one of two blocks is chosen by it, or it is given back.
 #[derive(Clone, Copy)]
-pub enum Effect {
-    Unknown,
-    Noted,
+pub enum Target {
+    Slot(usize),
+    Blocks(usize, usize),
+    Back,
+}
+
+/// A statement's value: it isn't found at once; it is that number; an operator makes it of two; or it is that of an expression.
+#[derive(Clone, Copy)]
+pub enum Value<'a> {
+    Later,
+    Found(i64),
+    Joined(Operator, i64, i64),
+    Of(&'a Expression),
+}
+
+/// What a statement comes to: it is none that an instance does by itself; it is a sync; it updates a reducer by one number, by two, or by
+/// the values of expressions; or something is done with a value.
+#[derive(Clone, Copy)]
+pub enum Effect<'a> {
+    Other,
+    Sync,
     One(usize, i64),
     Two(usize, i64, i64),
-    Bound(usize, i64),
-    Chosen(i64, usize, usize),
-    Gave(i64),
+    Many(usize, &'a [Expression]),
+    Value(Value<'a>, Target),
 }
 
-/// Does a statement by its short form, where it has one and that is enough; else nothing has changed.
+/// What a statement comes to over slots. Only a layer that keeps no readings lets tables be read for a short form.
 #[inline(always)]
-pub(crate) fn perform_short<V: View>(
-    layer: &mut Layer<V>,
-    setting: Setting<'_>,
-    passes_syncs: bool,
-    position: Position,
-    instruction: &Instruction,
-    top: &mut Activation,
-) -> Did
-    requires room { position.index + 1 < 2 ^ 64 }
-    requires short { HasShort setting.program.now.kinds instruction.now }
-    requires kinds { layer.old.kinds ≡ setting.program.now.kinds }
-    ensures done { Comes (lent setting.entry) passes_syncs position (λ kit. performed
-        (lent setting.entry) kit position instruction.now.number instruction.now.operation) top.old layer.old result top.new layer.new }
-    ensures same_block { OnNext result (IsInBlock top.old top.new) }
-    ensures kinds { layer.new.kinds ≡ layer.old.kinds }
-{
-    let here = Here {
-        statement: instruction.number,
-        position,
-        passes_syncs,
-    };
-    match effect_of(layer, &instruction.short, top.slots(), setting.tables) {
-        Effect::Unknown => Did::Nothing,
-        Effect::Noted => do_noted(layer, setting, here, instruction, top),
-        Effect::One(reducer, number) => update_by(layer, setting, here, reducer, &[number]),
-        Effect::Two(reducer, first, second) => {
-            update_by(layer, setting, here, reducer, &[first, second])
-        }
-        Effect::Bound(name, value) => {
-            top.bind(Some(name), Slot::Has(value));
-            Did::Next
-        }
-        Effect::Chosen(value, first, second) => choose_by(setting, here, value, first, second, top),
-        Effect::Gave(value) => Did::Gave(value),
-    }
-}
-
-/// Puts a value into a slot, or gives it back, and notes what is read for it.
-#[inline(always)]
-fn do_noted<V: View>(
-    layer: &mut Layer<V>,
-    setting: Setting<'_>,
-    here: Here,
-    instruction: &Instruction,
-    top: &mut Activation,
-) -> Did
-    requires room { here.position.index + 1 < 2 ^ 64 }
-    ensures done { Does here.passes_syncs here.position (λ kit. performed
-        (lent setting.entry) kit here.position here.statement instruction.now.operation) top.old layer.old result top.new layer.new }
-    ensures same_block { OnNext result (IsInBlock top.old top.new) }
-    ensures kinds { layer.new.kinds ≡ layer.old.kinds }
-{
-    match &instruction.operation {
-        Operation::Bind(name, value) => {
-            bind_evaluated(layer, setting.tables, here, *name, value, top)
-        }
-        Operation::Return(value) => give_evaluated(layer, setting.tables, here, value, top),
-        _ => Did::Nothing,
-    }
-}
-
-/// Goes into one of two blocks by a value that is found with nothing to note; a second one in which there is nothing is passed by.
-#[inline(always)]
-fn choose_by(
-    setting: Setting<'_>,
-    here: Here,
-    value: i64,
-    first: usize,
-    second: usize,
-    top: &mut Activation,
-) -> Did
-    requires room { here.position.index + 1 < 2 ^ 64 }
-    ensures done { (l : PlainLayer) (o : NumberedOut ℤ) → Fills o value l l → Comes (lent setting.entry) here.passes_syncs here.position
-        (λ kit. evaluated here.statement o (choosing here.position first second)) top.old l result top.new l }
-    ensures same_block { OnNext result (IsInBlock top.old top.new) }
-{
-    match go_by(setting.program, here.position, value, first, second, top) {
-        Chosen::Nothing => Did::Nothing,
-        Chosen::Passed => Did::Next,
-        Chosen::Inside => Did::Moved,
-    }
-}
-
-/// What a statement of that short form comes to over slots. Only a layer that keeps no readings lets tables be read for it.
-#[inline(always)]
-fn effect_of<V: View>(
+pub(crate) fn effect_of<'a, V: View>(
     layer: &Layer<V>,
-    short: &ShortForm,
+    instruction: &'a Instruction,
     slots: &[Slot],
     tables: &Tables,
-) -> Effect
+) -> Effect<'a>
+    ensures effect { (kinds : List Kind) (inner : ℕ → Acts) → IsFormOf kinds inner instruction.now.short (act_of inner instruction.now.operation)
+        → IsEffect kinds inner tables.now.tables slots.now layer.now (act_of inner instruction.now.operation) result }
+{
+    match &instruction.short {
+        ShortForm::Other => effect_of_operation(&instruction.operation),
+        ShortForm::UpdateSlot(reducer, slot) => Effect::One(*reducer, number_in(slots, *slot)),
+        ShortForm::UpdateNumber(reducer, number) => Effect::One(*reducer, *number),
+        ShortForm::UpdateSlots(reducer, first, second) => {
+            Effect::Two(
+                *reducer,
+                number_in(slots, *first),
+                number_in(slots, *second),
+            )
+        }
+        ShortForm::UpdateSlotAndNumber(reducer, slot, number) => {
+            Effect::Two(*reducer, number_in(slots, *slot), *number)
+        }
+        _ => effect_of_value(layer, &instruction.short, slots, tables),
+    }
+}
+
+/// What a statement comes to that has no short form.
+#[inline(always)]
+fn effect_of_operation<'a>(operation: &'a Operation) -> Effect<'a>
+    ensures effect { (kinds : List Kind) (inner : ℕ → Acts) (all : TableList) (slots : List AnySlot) (l : PlainLayer)
+        → IsEffect kinds inner all slots l (act_of inner operation.now) result }
+{
+    match operation {
+        Operation::Bind(name, value) => Effect::Value(Value::Of(value), Target::Slot(*name)),
+        Operation::Update(reducer, values) => Effect::Many(*reducer, values.as_slice()),
+        Operation::If(condition, first, second) => {
+            Effect::Value(Value::Of(condition), Target::Blocks(*first, *second))
+        }
+        Operation::Return(value) => Effect::Value(Value::Of(value), Target::Back),
+        Operation::Sync => Effect::Sync,
+        _ => Effect::Other,
+    }
+}
+
+/// What one comes to whose short form has a value on slots and numbers.
+#[inline(always)]
+fn effect_of_value<'a, V: View>(
+    layer: &Layer<V>,
+    short: &'a ShortForm,
+    slots: &[Slot],
+    tables: &Tables,
+) -> Effect<'a>
     ensures effect { (kinds : List Kind) (inner : ℕ → Acts) (act : Act) → IsFormOf kinds inner short.now act
         → IsEffect kinds inner tables.now.tables slots.now layer.now act result }
 {
     match short {
-        ShortForm::Other => Effect::Unknown,
-        ShortForm::UpdateSlot(reducer, slot) => by_one(*reducer, number_there(slots, *slot)),
-        ShortForm::UpdateNumber(reducer, number) => by_one(*reducer, Some(*number)),
-        ShortForm::UpdateSlots(reducer, first, second) => {
-            let second = number_there(slots, *second);
-            by_two(*reducer, number_there(slots, *first), second)
+        ShortForm::ReturnSlot(slot) => Effect::Value(of_slot(*slot, slots), Target::Back),
+        ShortForm::ReturnNumber(number) => Effect::Value(Value::Found(*number), Target::Back),
+        ShortForm::ReturnSlots(operator, left, right) => {
+            Effect::Value(on_slots(*operator, *left, *right, slots), Target::Back)
         }
-        ShortForm::UpdateSlotAndNumber(reducer, slot, number) => {
-            by_two(*reducer, number_there(slots, *slot), Some(*number))
+        ShortForm::ReturnSlotAndNumber(operator, left, right) => {
+            Effect::Value(on_left(*operator, *left, *right, slots), Target::Back)
         }
-        ShortForm::ReturnSlot(slot) => giving(number_there(slots, *slot)),
-        ShortForm::ReturnNumber(number) => giving(Some(*number)),
+        ShortForm::ReturnNumberAndSlot(operator, left, right) => {
+            Effect::Value(on_right(*operator, *left, *right, slots), Target::Back)
+        }
         _ => effect_of_operator(layer, short, slots, tables),
     }
 }
 
-/// That of one with an operator on slots and numbers.
+/// What one comes to whose short form puts an operator's value on slots and numbers into a slot, or chooses a block by it.
 #[inline(always)]
-fn effect_of_operator<V: View>(
+fn effect_of_operator<'a, V: View>(
     layer: &Layer<V>,
-    short: &ShortForm,
+    short: &'a ShortForm,
     slots: &[Slot],
     tables: &Tables,
-) -> Effect
+) -> Effect<'a>
     ensures effect { (kinds : List Kind) (inner : ℕ → Acts) (act : Act) → IsFormOf kinds inner short.now act
         → IsEffect kinds inner tables.now.tables slots.now layer.now act result }
 {
     match short {
-        ShortForm::ReturnSlots(operator, left, right) => {
-            giving(value_on_slots(*operator, *left, *right, slots))
-        }
-        ShortForm::ReturnSlotAndNumber(operator, left, right) => {
-            giving(value_on_left(*operator, *left, *right, slots))
-        }
-        ShortForm::ReturnNumberAndSlot(operator, left, right) => {
-            giving(value_on_right(*operator, *left, *right, slots))
-        }
         ShortForm::BindSlots(name, operator, left, right) => {
-            binding(*name, on_slots(*operator, *left, *right, slots))
+            let value = on_slots(*operator, *left, *right, slots);
+            Effect::Value(value, Target::Slot(*name))
         }
         ShortForm::BindSlotAndNumber(name, operator, left, right) => {
-            binding(*name, on_left(*operator, *left, *right, slots))
+            let value = on_left(*operator, *left, *right, slots);
+            Effect::Value(value, Target::Slot(*name))
         }
         ShortForm::BindNumberAndSlot(name, operator, left, right) => {
-            binding(*name, on_right(*operator, *left, *right, slots))
+            let value = on_right(*operator, *left, *right, slots);
+            Effect::Value(value, Target::Slot(*name))
         }
         ShortForm::ChooseSlots(operator, left, right, first, second) => {
-            choice(
-                value_on_slots(*operator, *left, *right, slots),
-                *first,
-                *second,
-            )
+            let value = on_slots(*operator, *left, *right, slots);
+            Effect::Value(value, Target::Blocks(*first, *second))
         }
         ShortForm::ChooseSlotAndNumber(operator, left, right, first, second) => {
-            choice(
-                value_on_left(*operator, *left, *right, slots),
-                *first,
-                *second,
-            )
+            let value = on_left(*operator, *left, *right, slots);
+            Effect::Value(value, Target::Blocks(*first, *second))
         }
         ShortForm::ChooseNumberAndSlot(operator, left, right, first, second) => {
-            choice(
-                value_on_right(*operator, *left, *right, slots),
-                *first,
-                *second,
-            )
+            let value = on_right(*operator, *left, *right, slots);
+            Effect::Value(value, Target::Blocks(*first, *second))
         }
         _ => effect_on_row(layer, short, slots, tables),
     }
 }
 
-/// That of one that reads a cell, or two of one row.
+/// What one comes to whose short form has a value on a slot's row. Each of the two ways to such a value stands once, for whatever is done
+/// with it.
 #[inline(always)]
-fn effect_on_row<V: View>(
+fn effect_on_row<'a, V: View>(
     layer: &Layer<V>,
-    short: &ShortForm,
+    short: &'a ShortForm,
     slots: &[Slot],
     tables: &Tables,
-) -> Effect
+) -> Effect<'a>
     ensures effect { (kinds : List Kind) (inner : ℕ → Acts) (act : Act) → IsFormOf kinds inner short.now act
         → IsEffect kinds inner tables.now.tables slots.now layer.now act result }
 {
-    match short {
-        ShortForm::ReturnOnRow(operator, cells) => {
-            let value = value_on_row(layer, *operator, cells, slots, tables);
-            unless_kept(layer, giving(value))
+    match cells_of(short) {
+        Some((operator, cells, target)) => {
+            Effect::Value(on_row(layer, operator, cells, slots, tables), target)
         }
-        ShortForm::ReturnCell(table, slot, column) => {
-            let value = value_of_cell(layer, *table, *slot, *column, slots, tables);
-            unless_kept(layer, giving(value))
-        }
-        ShortForm::BindOnRow(name, operator, cells) => {
-            let value = on_row(layer, *operator, cells, slots, tables);
-            unless_kept(layer, binding(*name, value))
-        }
-        ShortForm::BindCell(name, table, slot, column) => {
-            let value = cell_there(layer, *table, *slot, *column, slots, tables);
-            unless_kept(layer, binding(*name, value))
-        }
-        ShortForm::ChooseOnRow(operator, cells, first, second) => {
-            let value = value_on_row(layer, *operator, cells, slots, tables);
-            choice(value, *first, *second)
-        }
-        _ => Effect::Unknown,
+        None => match cell_of(short) {
+            Some((table, slot, column, target)) => {
+                let value = of_cell(layer, table, slot, column, slots, tables);
+                Effect::Value(value, target)
+            }
+            None => Effect::Other,
+        },
     }
 }
 
-/// What is read for a statement has to be noted instead, where the layer keeps readings.
+/// The operator, the two cells of one row and what is done with the value, where a short form has these.
 #[inline(always)]
-fn unless_kept<V: View>(layer: &Layer<V>, effect: Effect) -> Effect
-    ensures effect { (kinds : List Kind) (inner : ℕ → Acts) (all : TableList) (slots : List AnySlot) (act : Act)
-        → IsEffect kinds inner all slots layer.now act effect → IsEffect kinds inner all slots layer.now act result }
+fn cells_of<'a>(short: &'a ShortForm) -> Option<(Operator, &'a RowCells, Target)>
+    ensures cells { IfSome result (λ found. (kinds : List Kind) (inner : ℕ → Acts) (act : Act) → IsFormOf kinds inner short.now act
+        → act ≡ act_for inner (row_of found.0 found.1.now) found.2) }
 {
-    if layer.keeps {
-        return Effect::Noted;
+    match short {
+        ShortForm::ReturnOnRow(operator, cells) => Some((*operator, cells, Target::Back)),
+        ShortForm::BindOnRow(name, operator, cells) => {
+            Some((*operator, cells, Target::Slot(*name)))
+        }
+        ShortForm::ChooseOnRow(operator, cells, first, second) => {
+            Some((*operator, cells, Target::Blocks(*first, *second)))
+        }
+        _ => None,
     }
-    effect
+}
+
+/// The table, the slot of the row, the column and what is done with the value, where a short form has one cell.
+#[inline(always)]
+fn cell_of(short: &ShortForm) -> Option<(usize, usize, usize, Target)>
+    ensures cell { IfSome result (λ found. (kinds : List Kind) (inner : ℕ → Acts) (act : Act) → IsFormOf kinds inner short.now act
+        → act ≡ act_for inner (cell_at found.0 (slot_of found.1) found.2) found.3) }
+{
+    match short {
+        ShortForm::ReturnCell(table, slot, column) => {
+            Some((*table, *slot, *column, Target::Back))
+        }
+        ShortForm::BindCell(name, table, slot, column) => {
+            Some((*table, *slot, *column, Target::Slot(*name)))
+        }
+        _ => None,
+    }
+}
+
+/// What a slot holds.
+#[inline(always)]
+fn of_slot<'a>(slot: usize, slots: &[Slot]) -> Value<'a>
+    ensures value { (all : TableList) (l : PlainLayer) → Finds all slots.now l result (slot_of slot) }
+{
+    Value::Found(number_in(slots, slot))
 }
 
 /// The value of an operator on what two slots hold.
 #[inline(always)]
-fn on_slots(operator: Operator, left: usize, right: usize, slots: &[Slot]) -> Option<i64>
-    ensures value { IfSome result (λ v. (all : TableList)
-        → value_at all slots.now (joined_by operator (slot_of left) (slot_of right)) ≡ pure v) }
+fn on_slots<'a>(operator: Operator, left: usize, right: usize, slots: &[Slot]) -> Value<'a>
+    ensures value { (all : TableList) (l : PlainLayer) → Finds all slots.now l result (joined_by operator (slot_of left) (slot_of right)) }
 {
-    joined(operator, number_in(slots, left), number_in(slots, right))
+    Value::Joined(operator, number_in(slots, left), number_in(slots, right))
 }
 
 /// The value of an operator on what a slot holds and a number.
 #[inline(always)]
-fn on_left(operator: Operator, left: usize, right: i64, slots: &[Slot]) -> Option<i64>
-    ensures value { IfSome result (λ v. (all : TableList)
-        → value_at all slots.now (joined_by operator (slot_of left) (constant right)) ≡ pure v) }
+fn on_left<'a>(operator: Operator, left: usize, right: i64, slots: &[Slot]) -> Value<'a>
+    ensures value { (all : TableList) (l : PlainLayer) → Finds all slots.now l result (joined_by operator (slot_of left) (constant right)) }
 {
-    joined(operator, number_in(slots, left), right)
+    Value::Joined(operator, number_in(slots, left), right)
 }
 
 /// The value of an operator on a number and what a slot holds.
 #[inline(always)]
-fn on_right(operator: Operator, left: i64, right: usize, slots: &[Slot]) -> Option<i64>
-    ensures value { IfSome result (λ v. (all : TableList)
-        → value_at all slots.now (joined_by operator (constant left) (slot_of right)) ≡ pure v) }
+fn on_right<'a>(operator: Operator, left: i64, right: usize, slots: &[Slot]) -> Value<'a>
+    ensures value { (all : TableList) (l : PlainLayer) → Finds all slots.now l result (joined_by operator (constant left) (slot_of right)) }
 {
-    joined(operator, left, number_in(slots, right))
+    Value::Joined(operator, left, number_in(slots, right))
 }
 
-// The same, compiled by themselves: an operator's cases stand in the loop over statements for binds alone, so that it stays small
-// enough to be compiled into those that call it.
-#[inline(never)]
-fn value_on_slots(operator: Operator, left: usize, right: usize, slots: &[Slot]) -> Option<i64>
-    ensures value { IfSome result (λ v. (all : TableList)
-        → value_at all slots.now (joined_by operator (slot_of left) (slot_of right)) ≡ pure v) }
-{
-    on_slots(operator, left, right, slots)
-}
-
-#[inline(never)]
-fn value_on_left(operator: Operator, left: usize, right: i64, slots: &[Slot]) -> Option<i64>
-    ensures value { IfSome result (λ v. (all : TableList)
-        → value_at all slots.now (joined_by operator (slot_of left) (constant right)) ≡ pure v) }
-{
-    on_left(operator, left, right, slots)
-}
-
-#[inline(never)]
-fn value_on_right(operator: Operator, left: i64, right: usize, slots: &[Slot]) -> Option<i64>
-    ensures value { IfSome result (λ v. (all : TableList)
-        → value_at all slots.now (joined_by operator (constant left) (slot_of right)) ≡ pure v) }
-{
-    on_right(operator, left, right, slots)
-}
-
-#[inline(never)]
-fn value_on_row<V: View>(
+/// The value of an operator on two cells of one row, where that is found at once and no reading is kept.
+#[inline(always)]
+fn on_row<'a, V: View>(
     layer: &Layer<V>,
     operator: Operator,
     cells: &RowCells,
     slots: &[Slot],
     tables: &Tables,
-) -> Option<i64>
-    ensures value { IfSome result (λ v. Fills (value_at tables.now.tables slots.now (row_of operator cells.now)) v layer.now layer.now) }
+) -> Value<'a>
+    ensures value { Finds tables.now.tables slots.now layer.now result (row_of operator cells.now) }
 {
-    on_row(layer, operator, cells, slots, tables)
+    if layer.keeps {
+        return Value::Later;
+    }
+    match two_at_once(cells, slots, tables) {
+        Some((left, right)) => Value::Joined(operator, left, right),
+        None => Value::Later,
+    }
 }
 
-#[inline(never)]
-fn value_of_cell<V: View>(
+/// The value of a cell of a slot's row, where that is found at once and no reading is kept.
+#[inline(always)]
+fn of_cell<'a, V: View>(
     layer: &Layer<V>,
     table: usize,
     slot: usize,
     column: usize,
     slots: &[Slot],
     tables: &Tables,
+) -> Value<'a>
+    ensures value { Finds tables.now.tables slots.now layer.now result (cell_at table (slot_of slot) column) }
+{
+    if layer.keeps {
+        return Value::Later;
+    }
+    match cell_at_once(table, slot, column, slots, tables) {
+        Some(value) => Value::Found(value),
+        None => Value::Later,
+    }
+}
+
+/// A statement's value, where it is found at once. An operator's cases stand here alone, for whatever form has one and whatever is done
+/// with the value, so that the loop over statements stays small enough to be compiled into those that call it.
+#[inline(always)]
+pub(crate) fn value_of<V: View>(
+    layer: &Layer<V>,
+    value: Value<'_>,
+    slots: &[Slot],
+    tables: &Tables,
 ) -> Option<i64>
-    ensures value { IfSome result (λ v. Fills (value_at tables.now.tables slots.now (cell_at table (slot_of slot) column)) v layer.now layer.now) }
-{
-    cell_there(layer, table, slot, column, slots, tables)
-}
-
-/// An update by one number, where it was found.
-#[inline(always)]
-fn by_one(reducer: usize, number: Option<i64>) -> Effect
-    ensures effect { (kinds : List Kind) (inner : ℕ → Acts) (all : TableList) (slots : List AnySlot) (l : PlainLayer) (e : Linked)
-        → HasArity 1 (slice_get kinds reducer) → IfSome number (λ v. value_at all slots e ≡ pure v)
-        → IsEffect kinds inner all slots l (updates reducer (e ∷ [])) result }
-{
-    match number {
-        Some(number) => Effect::One(reducer, number),
-        None => Effect::Unknown,
-    }
-}
-
-/// An update by two numbers, where both were found.
-#[inline(always)]
-fn by_two(reducer: usize, first: Option<i64>, second: Option<i64>) -> Effect
-    ensures effect { (kinds : List Kind) (inner : ℕ → Acts) (all : TableList) (slots : List AnySlot) (l : PlainLayer) (e f : Linked)
-        → HasArity 2 (slice_get kinds reducer)
-        → IfSome first (λ v. value_at all slots e ≡ pure v) → IfSome second (λ v. value_at all slots f ≡ pure v)
-        → IsEffect kinds inner all slots l (updates reducer (e ∷ f ∷ [])) result }
-{
-    match first {
-        Some(first) => match second {
-            Some(second) => Effect::Two(reducer, first, second),
-            None => Effect::Unknown,
-        },
-        None => Effect::Unknown,
-    }
-}
-
-/// A value for a slot, where it was found.
-#[inline(always)]
-fn binding(name: usize, value: Option<i64>) -> Effect
-    ensures effect { (kinds : List Kind) (inner : ℕ → Acts) (all : TableList) (slots : List AnySlot) (l : PlainLayer) (e : Linked)
-        → IfSome value (λ v. Fills (value_at all slots e) v l l) → IsEffect kinds inner all slots l (binds name e) result }
+    ensures value { IfSome result (λ v. HasValue tables.now.tables slots.now layer.now value v) }
 {
     match value {
-        Some(value) => Effect::Bound(name, value),
-        None => Effect::Unknown,
-    }
-}
-
-/// A choice between two blocks, where the value of its condition was found.
-#[inline(always)]
-fn choice(value: Option<i64>, first: usize, second: usize) -> Effect
-    ensures effect { (kinds : List Kind) (inner : ℕ → Acts) (all : TableList) (slots : List AnySlot) (l : PlainLayer) (e : Linked)
-        → IfSome value (λ v. Fills (value_at all slots e) v l l)
-        → IsEffect kinds inner all slots l (chooses e (inner first) (inner second)) result }
-{
-    match value {
-        Some(value) => Effect::Chosen(value, first, second),
-        None => Effect::Unknown,
-    }
-}
-
-/// A value that is given back, where it was found.
-#[inline(always)]
-fn giving(value: Option<i64>) -> Effect
-    ensures effect { (kinds : List Kind) (inner : ℕ → Acts) (all : TableList) (slots : List AnySlot) (l : PlainLayer) (e : Linked)
-        → IfSome value (λ v. Fills (value_at all slots e) v l l) → IsEffect kinds inner all slots l (gives e) result }
-{
-    match value {
-        Some(value) => Effect::Gave(value),
-        None => Effect::Unknown,
-    }
-}
-
-/// Updates a reducer by as many numbers as it takes; where memory is refused, or they name no element, nothing has changed.
-#[inline(always)]
-fn update_by<V: View>(
-    layer: &mut Layer<V>,
-    setting: Setting<'_>,
-    here: Here,
-    reducer: usize,
-    numbers: &[i64],
-) -> Did
-    requires takes { HasArity (length numbers.now) (slice_get setting.program.now.kinds reducer) }
-    requires kinds { layer.old.kinds ≡ setting.program.now.kinds }
-    ensures done { (a : PlainActivation) (o : NumberedOut (List ℤ)) → o ≡ pure numbers.now
-        → Does here.passes_syncs here.position (λ kit. evaluated here.statement o
-        (combining (slice_get setting.entry.program.now.kinds reducer) here.statement here.position reducer))
-        a layer.old result a layer.new }
-    ensures kinds { layer.new.kinds ≡ layer.old.kinds }
-{
-    let kind = &setting.program.kinds()[reducer];
-    if layer.update_fitting(kind, reducer, numbers).is_ok() {
-        Did::Next
-    } else {
-        Did::Nothing
+        Value::Later => None,
+        Value::Found(number) => Some(number),
+        Value::Joined(operator, left, right) => joined(operator, left, right),
+        Value::Of(expression) => given_at_once(layer, expression, slots, tables),
     }
 }

@@ -1,15 +1,18 @@
 //! The statements that an instance does by itself: they enter no other instance.
-ghost use Rattle.std.specs.Prelude.{◌≡◌, ◌+◌, ◌<◌, ◌^◌, ℕ, ℤ, Bool, None, true, false, if◌then◌else◌};
-ghost use Rattle.linked_program.specs.CodeView.{expression as plain, instruction_at};
-ghost use Rattle.evaluation.specs.Values.{NumberedOut, value_at};
+ghost use Rattle.std.specs.Prelude.{◌≡◌, ◌+◌, ◌<◌, ◌^◌, ℕ, ℤ, Bool, List, None, true, false, length, map, slice_get, if◌then◌else◌};
+ghost use Rattle.linked_program.specs.CodeView.{HasArity, HasShort, expression as plain, instruction_at};
+ghost use Rattle.evaluation.specs.Values.{NumberedOut, pure, value_at, values_at};
+ghost use Rattle.positions.specs.Activations.{PlainActivation};
 ghost use Rattle.positions.specs.Layers.{PlainLayer};
 ghost use Rattle.positions.specs.Strands.{is_entry};
-ghost use Rattle.positions.specs.Advance.{evaluated, binding, choosing, giving, moved_on, performed};
+ghost use Rattle.positions.specs.Advance.{evaluated, binding, choosing, combining, giving, moved_on, performed};
 ghost use Rattle.activations.specs.Given.{lent};
+ghost use Rattle.own_statements.specs.Effects.{Comes, goes_on};
 ghost use Rattle.own_statements.specs.Fills.{Fills};
 ghost use Rattle.own_statements.specs.Paths.{Chooses, Does, OnNext, OnPassed, IsInBlock};
 
-use crate::found::{given_at_once, value_at_once};
+use crate::combining::combine_some;
+use crate::short_forms::{Effect, Target, effect_of, value_of};
 use activations::activation::Activation;
 use activations::setting::Setting;
 use evaluation::slot::Slot;
@@ -20,14 +23,14 @@ use linked_program::code::{Expression, Instruction, Operation};
 use positions::work::Position;
 use view_pool::View;
 
-/// What was done of a statement or a stretch of them: nothing; all of it, and the next statement of the block is next; all of it,
-/// and the instance goes on elsewhere; all of it, which gave that value back.
+/// What was done of a statement or a stretch of them: all of it, and the next statement of the block is next; all of it, and the
+/// instance goes on elsewhere; all of it, which gave that value back; nothing.
 #[derive(Clone, Copy)]
 pub enum Did {
-    Nothing,
     Next,
     Moved,
     Gave(i64),
+    Nothing,
 }
 
 /// What was done of a choice between two blocks: nothing; the second one was passed by, in which there is nothing; or the instance has
@@ -47,20 +50,22 @@ pub struct Here {
     pub passes_syncs: bool,
 }
 
-/// One statement that is no update of a reducer and no choice. Where the next one of the block is next, what the instance has left is not noted.
-/// It is compiled by itself, so that the loop over statements is small enough to be compiled into those around it.
-#[inline(never)]
-pub fn perform_alone<V: View>(
+/// One statement, unless it enters another instance, loops or reads a reducer. Where the next one of the block is next, what the instance
+/// has left is not noted.
+#[inline(always)]
+pub(crate) fn perform<V: View>(
     layer: &mut Layer<V>,
     setting: Setting<'_>,
     passes_syncs: bool,
     position: Position,
     instruction: &Instruction,
     top: &mut Activation,
+    numbers: &mut Vec<i64>,
 ) -> Did
     requires room { position.index + 1 < 2 ^ 64 }
+    requires short { HasShort setting.program.now.kinds instruction.now }
     requires kinds { layer.old.kinds ≡ setting.program.now.kinds }
-    ensures done { Does passes_syncs position (λ kit. performed
+    ensures done { Comes (lent setting.entry) passes_syncs position (λ kit. performed
         (lent setting.entry) kit position instruction.now.number instruction.now.operation) top.old layer.old result top.new layer.new }
     ensures same_block { OnNext result (IsInBlock top.old top.new) }
     ensures kinds { layer.new.kinds ≡ layer.old.kinds }
@@ -70,11 +75,22 @@ pub fn perform_alone<V: View>(
         position,
         passes_syncs,
     };
-    match &instruction.operation {
-        Operation::Bind(name, value) => { bind(layer, setting.tables, here, *name, value, top) }
-        Operation::Return(value) => { give(layer, setting.tables, here, value, top) }
-        Operation::Sync => pass_sync(layer, passes_syncs, position, top),
-        _ => Did::Nothing,
+    match effect_of(layer, instruction, top.slots(), setting.tables) {
+        Effect::Other => Did::Nothing,
+        Effect::Sync => pass_sync(layer, passes_syncs, position, top),
+        Effect::One(reducer, number) => update_by(layer, setting, here, reducer, &[number]),
+        Effect::Two(reducer, first, second) => {
+            update_by(layer, setting, here, reducer, &[first, second])
+        }
+        Effect::Many(reducer, values) => {
+            update_by_all(layer, setting, here, reducer, values, top, numbers)
+        }
+        Effect::Value(value, target) => {
+            match value_of(layer, value, top.slots(), setting.tables) {
+                Some(value) => put(setting, here, value, target, top),
+                None => evaluate(layer, setting, here, &instruction.operation, top),
+            }
+        }
     }
 }
 
@@ -99,89 +115,102 @@ fn pass_sync<V: View>(
     }
 }
 
-/// Puts the value of an expression into a slot. Where it isn't found at once, that is done by a function which is compiled by itself:
-/// so is each statement's, and what is left is short enough for the loop over statements.
+/// Updates a reducer by as many numbers as it takes; where memory is refused, or they name no element, nothing has changed.
 #[inline(always)]
-fn bind<V: View>(
-    layer: &mut Layer<V>,
-    tables: &Tables,
-    here: Here,
-    name: usize,
-    expression: &Expression,
-    top: &mut Activation,
-) -> Did
-    requires room { here.position.index + 1 < 2 ^ 64 }
-    ensures done { Does here.passes_syncs here.position (λ kit. evaluated here.statement (value_at tables.now.tables top.old.slots (plain expression.now))
-        (binding here.position name)) top.old layer.old result top.new layer.new }
-    ensures same_block { OnNext result (IsInBlock top.old top.new) }
-    ensures kinds { layer.new.kinds ≡ layer.old.kinds }
-{
-    match value_at_once(layer, expression, top.slots(), tables) {
-        Some(value) => {
-            top.bind(Some(name), Slot::Has(value));
-            Did::Next
-        }
-        None => bind_evaluated(layer, tables, here, name, expression, top),
-    }
-}
-
-/// Puts the value of whatever expression into a slot.
-#[inline(never)]
-pub(crate) fn bind_evaluated<V: View>(
-    layer: &mut Layer<V>,
-    tables: &Tables,
-    here: Here,
-    name: usize,
-    expression: &Expression,
-    top: &mut Activation,
-) -> Did
-    requires room { here.position.index + 1 < 2 ^ 64 }
-    ensures done { Does here.passes_syncs here.position (λ kit. evaluated here.statement (value_at tables.now.tables top.old.slots (plain expression.now))
-        (binding here.position name)) top.old layer.old result top.new layer.new }
-    ensures same_block { OnNext result (IsInBlock top.old top.new) }
-    ensures kinds { layer.new.kinds ≡ layer.old.kinds }
-{
-    let before = layer.readings();
-    match layer.value(expression, top.slots(), tables) {
-        Ok(value) => {
-            top.bind(Some(name), Slot::Has(value));
-            Did::Next
-        }
-        Err(_) => {
-            layer.forget(before);
-            Did::Nothing
-        }
-    }
-}
-
-/// Goes into one of two blocks by a condition. A second one in which there is nothing, as where an `if` has no `else`, is passed by.
-#[inline(always)]
-pub fn choose<V: View>(
+fn update_by<V: View>(
     layer: &mut Layer<V>,
     setting: Setting<'_>,
     here: Here,
-    condition: &Expression,
+    reducer: usize,
+    numbers: &[i64],
+) -> Did
+    requires takes { HasArity (length numbers.now) (slice_get setting.program.now.kinds reducer) }
+    requires kinds { layer.old.kinds ≡ setting.program.now.kinds }
+    ensures done { (a : PlainActivation) (o : NumberedOut (List ℤ)) → o ≡ pure numbers.now
+        → Does here.passes_syncs here.position (λ kit. evaluated here.statement o
+        (combining (slice_get setting.entry.program.now.kinds reducer) here.statement here.position reducer))
+        a layer.old result a layer.new }
+    ensures kinds { layer.new.kinds ≡ layer.old.kinds }
+{
+    let kind = &setting.program.kinds()[reducer];
+    if layer.update_fitting(kind, reducer, numbers).is_ok() {
+        Did::Next
+    } else {
+        Did::Nothing
+    }
+}
+
+/// Updates a reducer by the values of whatever expressions.
+#[inline(always)]
+fn update_by_all<V: View>(
+    layer: &mut Layer<V>,
+    setting: Setting<'_>,
+    here: Here,
+    reducer: usize,
+    values: &[Expression],
+    top: &mut Activation,
+    numbers: &mut Vec<i64>,
+) -> Did
+    requires room { here.position.index + 1 < 2 ^ 64 }
+    requires kinds { layer.old.kinds ≡ setting.program.now.kinds }
+    ensures done { Does here.passes_syncs here.position (λ kit. evaluated here.statement
+        (values_at setting.entry.tables.now.tables top.old.slots (map plain values.now))
+        (combining (slice_get setting.entry.program.now.kinds reducer) here.statement here.position reducer))
+        top.old layer.old result top.new layer.new }
+    ensures same_block { OnNext result (IsInBlock top.old top.new) }
+    ensures kinds { layer.new.kinds ≡ layer.old.kinds }
+{
+    if combine_some(layer, setting, here, reducer, values, top, numbers) {
+        Did::Next
+    } else {
+        Did::Nothing
+    }
+}
+
+/// Does what is to be done with a statement's value that was found with nothing to note: it goes into a slot, one of two blocks is chosen
+/// by it, or it is given back. A second block in which there is nothing is passed by.
+#[inline(always)]
+fn put(setting: Setting<'_>, here: Here, value: i64, target: Target, top: &mut Activation) -> Did
+    requires room { here.position.index + 1 < 2 ^ 64 }
+    ensures done { (l : PlainLayer) (o : NumberedOut ℤ) → Fills o value l l → Comes (lent setting.entry) here.passes_syncs here.position
+        (λ kit. evaluated here.statement o (goes_on here.position target)) top.old l result top.new l }
+    ensures same_block { OnNext result (IsInBlock top.old top.new) }
+{
+    match target {
+        Target::Slot(name) => {
+            top.bind(Some(name), Slot::Has(value));
+            Did::Next
+        }
+        Target::Blocks(first, second) => choose_by(setting, here, value, first, second, top),
+        Target::Back => Did::Gave(value),
+    }
+}
+
+/// Goes into one of two blocks by a value that is found with nothing to note; a second one in which there is nothing is passed by.
+#[inline(always)]
+fn choose_by(
+    setting: Setting<'_>,
+    here: Here,
+    value: i64,
     first: usize,
     second: usize,
     top: &mut Activation,
-) -> Chosen
+) -> Did
     requires room { here.position.index + 1 < 2 ^ 64 }
-    ensures done { Chooses here.passes_syncs here.position second (λ kit. evaluated here.statement
-        (value_at setting.entry.tables.now.tables top.old.slots (plain condition.now))
-        (choosing here.position first second)) top.old layer.old result top.new layer.new }
-    ensures empty { OnPassed result (instruction_at setting.entry.program.now.codes top.old.procedure second 0 ≡ None) }
-    ensures same_block { OnPassed result (IsInBlock top.old top.new) }
-    ensures kinds { layer.new.kinds ≡ layer.old.kinds }
+    ensures done { (l : PlainLayer) (o : NumberedOut ℤ) → Fills o value l l → Comes (lent setting.entry) here.passes_syncs here.position
+        (λ kit. evaluated here.statement o (choosing here.position first second)) top.old l result top.new l }
+    ensures same_block { OnNext result (IsInBlock top.old top.new) }
 {
-    match value_at_once(layer, condition, top.slots(), setting.tables) {
-        Some(value) => go_by(setting.program, here.position, value, first, second, top),
-        None => choose_evaluated(layer, setting.tables, here, condition, first, second, top),
+    match go_by(setting.program, here.position, value, first, second, top) {
+        Chosen::Nothing => Did::Nothing,
+        Chosen::Passed => Did::Next,
+        Chosen::Inside => Did::Moved,
     }
 }
 
 /// Goes into one of two blocks by the value that their condition has. A second one in which there is nothing is passed by.
 #[inline(always)]
-pub(crate) fn go_by(
+fn go_by(
     program: &Checked,
     position: Position,
     value: i64,
@@ -213,9 +242,66 @@ fn is_empty(program: &Checked, procedure: usize, block: usize) -> bool
     program.instruction(procedure, block, 0).is_none()
 }
 
-/// Goes into one of two blocks by whatever condition.
-#[cold]
+/// A statement whose value isn't found at once: its value is found with all that is read for it, and that is noted where the layer keeps
+/// readings. Where it has none, or memory is refused, nothing has changed. It is compiled by itself, so that the loop over statements is
+/// small enough to be compiled into those around it.
 #[inline(never)]
+fn evaluate<V: View>(
+    layer: &mut Layer<V>,
+    setting: Setting<'_>,
+    here: Here,
+    operation: &Operation,
+    top: &mut Activation,
+) -> Did
+    requires room { here.position.index + 1 < 2 ^ 64 }
+    ensures done { Does here.passes_syncs here.position (λ kit. performed
+        (lent setting.entry) kit here.position here.statement operation.now) top.old layer.old result top.new layer.new }
+    ensures same_block { OnNext result (IsInBlock top.old top.new) }
+    ensures kinds { layer.new.kinds ≡ layer.old.kinds }
+{
+    match operation {
+        Operation::Bind(name, value) => {
+            bind_evaluated(layer, setting.tables, here, *name, value, top)
+        }
+        Operation::If(condition, first, second) => {
+            choose_evaluated(layer, setting.tables, here, condition, *first, *second, top)
+        }
+        Operation::Return(value) => give_evaluated(layer, setting.tables, here, value, top),
+        _ => Did::Nothing,
+    }
+}
+
+/// Puts the value of whatever expression into a slot.
+#[inline(always)]
+fn bind_evaluated<V: View>(
+    layer: &mut Layer<V>,
+    tables: &Tables,
+    here: Here,
+    name: usize,
+    expression: &Expression,
+    top: &mut Activation,
+) -> Did
+    requires room { here.position.index + 1 < 2 ^ 64 }
+    ensures done { Does here.passes_syncs here.position (λ kit. evaluated here.statement (value_at tables.now.tables top.old.slots (plain expression.now))
+        (binding here.position name)) top.old layer.old result top.new layer.new }
+    ensures same_block { OnNext result (IsInBlock top.old top.new) }
+    ensures kinds { layer.new.kinds ≡ layer.old.kinds }
+{
+    let before = layer.readings();
+    match layer.value(expression, top.slots(), tables) {
+        Ok(value) => {
+            top.bind(Some(name), Slot::Has(value));
+            Did::Next
+        }
+        Err(_) => {
+            layer.forget(before);
+            Did::Nothing
+        }
+    }
+}
+
+/// Goes into one of two blocks by whatever condition.
+#[inline(always)]
 fn choose_evaluated<V: View>(
     layer: &mut Layer<V>,
     tables: &Tables,
@@ -224,12 +310,12 @@ fn choose_evaluated<V: View>(
     first: usize,
     second: usize,
     top: &mut Activation,
-) -> Chosen
+) -> Did
     requires room { here.position.index + 1 < 2 ^ 64 }
-    ensures done { Chooses here.passes_syncs here.position second (λ kit. evaluated here.statement
+    ensures done { Does here.passes_syncs here.position (λ kit. evaluated here.statement
         (value_at tables.now.tables top.old.slots (plain condition.now))
         (choosing here.position first second)) top.old layer.old result top.new layer.new }
-    ensures goes { OnPassed result (false ≡ true) }
+    ensures goes { OnNext result (false ≡ true) }
     ensures kinds { layer.new.kinds ≡ layer.old.kinds }
 {
     let before = layer.readings();
@@ -238,40 +324,20 @@ fn choose_evaluated<V: View>(
             let block = if value == 0 { second } else { first };
             if top.go_inside(block, here.position).is_err() {
                 layer.forget(before);
-                return Chosen::Nothing;
+                return Did::Nothing;
             }
-            Chosen::Inside
+            Did::Moved
         }
         Err(_) => {
             layer.forget(before);
-            Chosen::Nothing
+            Did::Nothing
         }
-    }
-}
-
-/// Gives the value of an expression back.
-#[inline(always)]
-fn give<V: View>(
-    layer: &mut Layer<V>,
-    tables: &Tables,
-    here: Here,
-    expression: &Expression,
-    top: &mut Activation,
-) -> Did
-    ensures done { Does here.passes_syncs here.position (λ kit. evaluated here.statement
-        (value_at tables.now.tables top.old.slots (plain expression.now)) giving) top.old layer.old result top.new layer.new }
-    ensures same_block { OnNext result (IsInBlock top.old top.new) }
-    ensures kinds { layer.new.kinds ≡ layer.old.kinds }
-{
-    match given_at_once(layer, expression, top.slots(), tables) {
-        Some(value) => Did::Gave(value),
-        None => give_evaluated(layer, tables, here, expression, top),
     }
 }
 
 /// Gives the value of whatever expression back.
-#[inline(never)]
-pub(crate) fn give_evaluated<V: View>(
+#[inline(always)]
+fn give_evaluated<V: View>(
     layer: &mut Layer<V>,
     tables: &Tables,
     here: Here,

@@ -4,7 +4,6 @@ use Rattle.linked_program.specs.CodeView.{expression, instruction_at, memo_of, s
 use Rattle.linked_program.specs.declared.code.Instruction.{Instruction}
 use Rattle.own_statements.proofs.Beside.{short_beside}
 use Rattle.own_statements.proofs.Calls.{call_returns, call_stays}
-use Rattle.own_statements.proofs.Choices.{chooses_if}
 use Rattle.own_statements.specs.Fills.{Fills}
 use Rattle.own_statements.specs.declared.ran.Inside.TheVariants.{Back}
 use Rattle.meaning.specs.Elision.{depth_limit}
@@ -15,7 +14,6 @@ use Rattle.evaluation.specs.declared.slot.Slot.TheVariants.{Has}
 use Rattle.positions.specs.Layers.{PlainLayer, entering}
 use Rattle.own_statements.proofs.Paths.{come_gave, come_inside, come_join, come_moved, come_next, come_none, come_out, come_passed, found_as, run_join, stop_here, stop_join}
 use Rattle.own_statements.proofs.Shorts.{come_short}
-use Rattle.own_statements.proofs.Updates.{does_update}
 use Rattle.own_statements.specs.Paths.{Chooses, ComesTo, Does, IsInBlock, OnNext, StopsBy, here}
 use Rattle.own_statements.specs.Runs.{CallsTo, IsBlock}
 use Rattle.own_statements.specs.declared.statements.Chosen.{Chosen}
@@ -33,166 +31,6 @@ use Rattle.own_statements.proofs.runs.+calling.Goals as goal
 pub run_block-loop-index-init : goal.run_block-loop-index-init
 run_block-loop-index-init g t c = record { kinds = refl; long = refl; same = (refl, refl); come = λ s may. here }
 
-pub run_block-loop-index-preserved : goal.run_block-loop-index-preserved
-run_block-loop-index-preserved g t c =
-    let S = lent c.args.setting in
-    let a = at (Block c.args.rest.position) c.args.top.now in
-    let xs = c.args.rest.statements.now in
-    let index = c.loop-index.index in
-    let i = c.index-statements-index.result in
-    let p : Position = record { block = c.args.rest.position.block; index = index } in
-    let there : index < length xs = search rules in
-    let before = c.loop-index.top in
-    let l0 = c.loop-index.layer in
-    let there0 : Some i ≡ instruction_inside S.codes before.procedure (length before.outer) p =
-    sym (slice_get_read xs (length xs) index i refl there c.index-statements-index.is) ∙ c.requires.block index
-    ∙ found_as S.codes c.args.top.now before p c.loop-index.invariant.same.0 c.loop-index.invariant.same.1 in
-    let b = c.perform_short.new.top in
-    let l = c.perform_short.new.layer in
-    let undone = c.in-Nothing.ensures.done in
-    let come : ComesTo S c.args.passes_syncs a c.args.layer.now None (at (Block p) b) l =
-    come_none S c.args.passes_syncs a c.args.layer.now p before l0 c.loop-index.invariant.come i there0 b l undone in
-    let within : IsInBlock c.args.top.now b =
-    (ap (λ (z : PlainActivation). z.procedure) undone.0 ∙ c.loop-index.invariant.same.0, ap (λ (z : PlainActivation). z.outer) undone.0 ∙ c.loop-index.invariant.same.1) in
-    let kept : l.kinds ≡ c.args.layer.now.kinds = c.perform_short.ensures.kinds ∙ c.loop-index.invariant.kinds in
-    let found : Some i ≡ instruction_inside S.codes b.procedure (length b.outer) p = there0 ∙ found_as S.codes before b p (ap (λ (z : PlainActivation). z.procedure) undone.0) (ap (λ (z : PlainActivation). z.outer) undone.0) in
-    record {
-      long = c.loop-index.invariant.long;
-      kinds = c.in-Next-perform_alone.ensures.kinds ∙ kept;
-      same = (c.in-Next-perform_alone.ensures.same_block.0 ∙ within.0, c.in-Next-perform_alone.ensures.same_block.1 ∙ within.1);
-      come = come_next S c.args.passes_syncs a c.args.layer.now p b l come i found c.perform_alone.new.top c.perform_alone.new.layer c.in-Next-perform_alone.ensures.done;
-    }
-
-pub run_block-loop-index-preserved-in-Update : goal.run_block-loop-index-preserved-in-Update
-run_block-loop-index-preserved-in-Update g t c =
-    let S = lent c.args.setting in
-    let a = at (Block c.args.rest.position) c.args.top.now in
-    let xs = c.args.rest.statements.now in
-    let index = c.loop-index.index in
-    let i = c.index-statements-index.result in
-    let p : Position = record { block = c.args.rest.position.block; index = index } in
-    let there : index < length xs = search rules in
-    let before = c.loop-index.top in
-    let l0 = c.loop-index.layer in
-    let there0 : Some i ≡ instruction_inside S.codes before.procedure (length before.outer) p =
-    sym (slice_get_read xs (length xs) index i refl there c.index-statements-index.is) ∙ c.requires.block index
-    ∙ found_as S.codes c.args.top.now before p c.loop-index.invariant.same.0 c.loop-index.invariant.same.1 in
-    let b = c.perform_short.new.top in
-    let l = c.perform_short.new.layer in
-    let undone = c.in-Nothing.ensures.done in
-    let come : ComesTo S c.args.passes_syncs a c.args.layer.now None (at (Block p) b) l =
-    come_none S c.args.passes_syncs a c.args.layer.now p before l0 c.loop-index.invariant.come i there0 b l undone in
-    let within : IsInBlock c.args.top.now b =
-    (ap (λ (z : PlainActivation). z.procedure) undone.0 ∙ c.loop-index.invariant.same.0, ap (λ (z : PlainActivation). z.outer) undone.0 ∙ c.loop-index.invariant.same.1) in
-    let kept : l.kinds ≡ c.args.layer.now.kinds = c.perform_short.ensures.kinds ∙ c.loop-index.invariant.kinds in
-    let found : Some i ≡ instruction_inside S.codes b.procedure (length b.outer) p = there0 ∙ found_as S.codes before b p (ap (λ (z : PlainActivation). z.procedure) undone.0) (ap (λ (z : PlainActivation). z.outer) undone.0) in
-    let t = c.combine_some.result in
-    let did : t ≡ true = search rules in
-    let es : c.as_slice-values.result.now ≡ c.in-Update.values.items = search rules in
-    let r = c.in-Update.reducer in
-    let m = c.combine_some.new.top in
-    let n = c.combine_some.new.layer in
-    let done : Does c.args.passes_syncs p (λ kit. evaluated i.number (values_at S.tables b.slots (map expression c.as_slice-values.result.now)) (combining (slice_get S.kinds r) i.number p r)) b l Next m n =
-    subst (λ (u : Bool). Does c.args.passes_syncs p (λ kit. evaluated i.number (values_at S.tables b.slots (map expression c.as_slice-values.result.now)) (combining (slice_get S.kinds r) i.number p r)) b l (if u then Next else Nothing) m n) did c.combine_some.ensures.done in
-    let same : IsInBlock b m = subst (λ (u : Bool). OnNext (if u then Next else Nothing) (IsInBlock b m)) did c.combine_some.ensures.same_block in
-    record {
-      long = c.loop-index.invariant.long;
-      kinds = c.combine_some.ensures.kinds ∙ kept;
-      same = (same.0 ∙ within.0, same.1 ∙ within.1);
-      come = come_next S c.args.passes_syncs a c.args.layer.now p b l come i found m n
-          (does_update S c.args.passes_syncs p i.number r c.in-Update.values c.as_slice-values.result.now i.operation b l Next m n c.in-Update.is es done);
-    }
-
-pub run_block-returns-then-not-combine_some-clause-ran : goal.run_block-returns-then-not-combine_some-clause-ran
-run_block-returns-then-not-combine_some-clause-ran g t c =
-    let S = lent c.args.setting in
-    let a = at (Block c.args.rest.position) c.args.top.now in
-    let xs = c.args.rest.statements.now in
-    let index = c.loop-index.index in
-    let i = c.index-statements-index.result in
-    let p : Position = record { block = c.args.rest.position.block; index = index } in
-    let there : index < length xs = search rules in
-    let before = c.loop-index.top in
-    let l0 = c.loop-index.layer in
-    let there0 : Some i ≡ instruction_inside S.codes before.procedure (length before.outer) p =
-    sym (slice_get_read xs (length xs) index i refl there c.index-statements-index.is) ∙ c.requires.block index
-    ∙ found_as S.codes c.args.top.now before p c.loop-index.invariant.same.0 c.loop-index.invariant.same.1 in
-    let b = c.perform_short.new.top in
-    let l = c.perform_short.new.layer in
-    let undone = c.in-Nothing.ensures.done in
-    let come : ComesTo S c.args.passes_syncs a c.args.layer.now None (at (Block p) b) l =
-    come_none S c.args.passes_syncs a c.args.layer.now p before l0 c.loop-index.invariant.come i there0 b l undone in
-    let within : IsInBlock c.args.top.now b =
-    (ap (λ (z : PlainActivation). z.procedure) undone.0 ∙ c.loop-index.invariant.same.0, ap (λ (z : PlainActivation). z.outer) undone.0 ∙ c.loop-index.invariant.same.1) in
-    let kept : l.kinds ≡ c.args.layer.now.kinds = c.perform_short.ensures.kinds ∙ c.loop-index.invariant.kinds in
-    let found : Some i ≡ instruction_inside S.codes b.procedure (length b.outer) p = there0 ∙ found_as S.codes before b p (ap (λ (z : PlainActivation). z.procedure) undone.0) (ap (λ (z : PlainActivation). z.outer) undone.0) in
-    let t = c.combine_some.result in
-    let did : t ≡ false = search rules in
-    let es : c.as_slice-values.result.now ≡ c.in-Update.values.items = search rules in
-    let r = c.in-Update.reducer in
-    let m = c.combine_some.new.top in
-    let n = c.combine_some.new.layer in
-    let done : Does c.args.passes_syncs p (λ kit. evaluated i.number (values_at S.tables b.slots (map expression c.as_slice-values.result.now)) (combining (slice_get S.kinds r) i.number p r)) b l Nothing m n =
-    subst (λ (u : Bool). Does c.args.passes_syncs p (λ kit. evaluated i.number (values_at S.tables b.slots (map expression c.as_slice-values.result.now)) (combining (slice_get S.kinds r) i.number p r)) b l (if u then Next else Nothing) m n) did c.combine_some.ensures.done in
-    subst (λ (y : PlainActivation). StopsBy S c.args.passes_syncs a c.args.layer.now 0 y c.loop-index.above n) (sym c.stand-then-not-combine_some.ensures.stands)
-    (stop_here S c.args.passes_syncs a c.args.layer.now (at (Block p) m) c.loop-index.above n (come_none S c.args.passes_syncs a c.args.layer.now p b l come i found m n
-    (does_update S c.args.passes_syncs p i.number r c.in-Update.values c.as_slice-values.result.now i.operation b l Nothing m n c.in-Update.is es done)))
-
-pub run_block-returns-in-Moved-perform_alone-clause-ran : goal.run_block-returns-in-Moved-perform_alone-clause-ran
-run_block-returns-in-Moved-perform_alone-clause-ran g t c =
-    let S = lent c.args.setting in
-    let a = at (Block c.args.rest.position) c.args.top.now in
-    let xs = c.args.rest.statements.now in
-    let index = c.loop-index.index in
-    let i = c.index-statements-index.result in
-    let p : Position = record { block = c.args.rest.position.block; index = index } in
-    let there : index < length xs = search rules in
-    let before = c.loop-index.top in
-    let l0 = c.loop-index.layer in
-    let there0 : Some i ≡ instruction_inside S.codes before.procedure (length before.outer) p =
-    sym (slice_get_read xs (length xs) index i refl there c.index-statements-index.is) ∙ c.requires.block index
-    ∙ found_as S.codes c.args.top.now before p c.loop-index.invariant.same.0 c.loop-index.invariant.same.1 in
-    let b = c.perform_short.new.top in
-    let l = c.perform_short.new.layer in
-    let undone = c.in-Nothing.ensures.done in
-    let come : ComesTo S c.args.passes_syncs a c.args.layer.now None (at (Block p) b) l =
-    come_none S c.args.passes_syncs a c.args.layer.now p before l0 c.loop-index.invariant.come i there0 b l undone in
-    let within : IsInBlock c.args.top.now b =
-    (ap (λ (z : PlainActivation). z.procedure) undone.0 ∙ c.loop-index.invariant.same.0, ap (λ (z : PlainActivation). z.outer) undone.0 ∙ c.loop-index.invariant.same.1) in
-    let kept : l.kinds ≡ c.args.layer.now.kinds = c.perform_short.ensures.kinds ∙ c.loop-index.invariant.kinds in
-    let found : Some i ≡ instruction_inside S.codes b.procedure (length b.outer) p = there0 ∙ found_as S.codes before b p (ap (λ (z : PlainActivation). z.procedure) undone.0) (ap (λ (z : PlainActivation). z.outer) undone.0) in
-    run_join S c.args.passes_syncs a c.args.layer.now c.perform_alone.new.top c.perform_alone.new.layer c.ran_to-in-Moved-perform_alone.result c.perform_alone.new.top c.loop-index.above c.perform_alone.new.layer
-    (come_moved S c.args.passes_syncs a c.args.layer.now p b l come i found c.perform_alone.new.top c.perform_alone.new.layer c.in-Moved-perform_alone.ensures.done)
-    (c.ran_to-in-Moved-perform_alone.ensures.runs c.args.passes_syncs c.perform_alone.new.layer c.loop-index.above)
-
-pub run_block-returns-in-Gave-perform_alone-clause-ran : goal.run_block-returns-in-Gave-perform_alone-clause-ran
-run_block-returns-in-Gave-perform_alone-clause-ran g t c =
-    let S = lent c.args.setting in
-    let a = at (Block c.args.rest.position) c.args.top.now in
-    let xs = c.args.rest.statements.now in
-    let index = c.loop-index.index in
-    let i = c.index-statements-index.result in
-    let p : Position = record { block = c.args.rest.position.block; index = index } in
-    let there : index < length xs = search rules in
-    let before = c.loop-index.top in
-    let l0 = c.loop-index.layer in
-    let there0 : Some i ≡ instruction_inside S.codes before.procedure (length before.outer) p =
-    sym (slice_get_read xs (length xs) index i refl there c.index-statements-index.is) ∙ c.requires.block index
-    ∙ found_as S.codes c.args.top.now before p c.loop-index.invariant.same.0 c.loop-index.invariant.same.1 in
-    let b = c.perform_short.new.top in
-    let l = c.perform_short.new.layer in
-    let undone = c.in-Nothing.ensures.done in
-    let come : ComesTo S c.args.passes_syncs a c.args.layer.now None (at (Block p) b) l =
-    come_none S c.args.passes_syncs a c.args.layer.now p before l0 c.loop-index.invariant.come i there0 b l undone in
-    let within : IsInBlock c.args.top.now b =
-    (ap (λ (z : PlainActivation). z.procedure) undone.0 ∙ c.loop-index.invariant.same.0, ap (λ (z : PlainActivation). z.outer) undone.0 ∙ c.loop-index.invariant.same.1) in
-    let kept : l.kinds ≡ c.args.layer.now.kinds = c.perform_short.ensures.kinds ∙ c.loop-index.invariant.kinds in
-    let found : Some i ≡ instruction_inside S.codes b.procedure (length b.outer) p = there0 ∙ found_as S.codes before b p (ap (λ (z : PlainActivation). z.procedure) undone.0) (ap (λ (z : PlainActivation). z.outer) undone.0) in
-    let same : c.in-Gave-perform_alone.value ≡ to_z w64 (of_z w64 c.in-Gave-perform_alone.value) = search rules in
-    subst (λ (v : ℤ). ComesTo S c.args.passes_syncs a c.args.layer.now (Some v) c.stand-in-Gave-perform_alone.new.self c.perform_alone.new.layer) same
-    (subst (λ (y : PlainActivation). ComesTo S c.args.passes_syncs a c.args.layer.now (Some c.in-Gave-perform_alone.value) y c.perform_alone.new.layer) (sym c.stand-in-Gave-perform_alone.ensures.stands)
-    (come_gave S c.args.passes_syncs a c.args.layer.now p b l come i found c.perform_alone.new.top c.perform_alone.new.layer c.in-Gave-perform_alone.value c.in-Gave-perform_alone.ensures.done))
-
 pub run_block-returns-clause-ran : goal.run_block-returns-clause-ran
 run_block-returns-clause-ran g t c =
     let S = lent c.args.setting in
@@ -208,110 +46,6 @@ run_block-returns-clause-ran g t c =
     (come_out S c.args.passes_syncs a c.args.layer.now p b c.loop-index.layer c.loop-index.invariant.come c.go_behind.new.top found c.go_behind.ensures.outside)
     (c.ran_to-2.ensures.runs c.args.passes_syncs c.loop-index.layer c.loop-index.above)
 
-pub run_block-loop-index-preserved-in-Passed : goal.run_block-loop-index-preserved-in-Passed
-run_block-loop-index-preserved-in-Passed g t c =
-    let S = lent c.args.setting in
-    let a = at (Block c.args.rest.position) c.args.top.now in
-    let xs = c.args.rest.statements.now in
-    let index = c.loop-index.index in
-    let i = c.index-statements-index.result in
-    let p : Position = record { block = c.args.rest.position.block; index = index } in
-    let there : index < length xs = search rules in
-    let before = c.loop-index.top in
-    let l0 = c.loop-index.layer in
-    let there0 : Some i ≡ instruction_inside S.codes before.procedure (length before.outer) p =
-    sym (slice_get_read xs (length xs) index i refl there c.index-statements-index.is) ∙ c.requires.block index
-    ∙ found_as S.codes c.args.top.now before p c.loop-index.invariant.same.0 c.loop-index.invariant.same.1 in
-    let b = c.perform_short.new.top in
-    let l = c.perform_short.new.layer in
-    let undone = c.in-Nothing.ensures.done in
-    let come : ComesTo S c.args.passes_syncs a c.args.layer.now None (at (Block p) b) l =
-    come_none S c.args.passes_syncs a c.args.layer.now p before l0 c.loop-index.invariant.come i there0 b l undone in
-    let within : IsInBlock c.args.top.now b =
-    (ap (λ (z : PlainActivation). z.procedure) undone.0 ∙ c.loop-index.invariant.same.0, ap (λ (z : PlainActivation). z.outer) undone.0 ∙ c.loop-index.invariant.same.1) in
-    let kept : l.kinds ≡ c.args.layer.now.kinds = c.perform_short.ensures.kinds ∙ c.loop-index.invariant.kinds in
-    let found : Some i ≡ instruction_inside S.codes b.procedure (length b.outer) p = there0 ∙ found_as S.codes before b p (ap (λ (z : PlainActivation). z.procedure) undone.0) (ap (λ (z : PlainActivation). z.outer) undone.0) in
-    let m = c.choose.new.top in
-    let n = c.choose.new.layer in
-    let block = c.in-If.second in
-    let done : (ch : Chosen) → Chooses c.args.passes_syncs p block (λ kit. evaluated i.number (value_at S.tables b.slots (expression c.in-If.condition)) (choosing p c.in-If.first block)) b l ch m n
-    → Chooses c.args.passes_syncs p block (λ kit. performed S kit p i.number i.operation) b l ch m n =
-    λ ch h. chooses_if S c.args.passes_syncs p i.number c.in-If.condition c.in-If.first block i.operation b l ch m n c.in-If.is h in
-    let none : instruction_at S.codes m.procedure block 0 ≡ None =
-    ap (λ f. instruction_at S.codes f block 0) c.in-Passed.ensures.same_block.0 ∙ c.in-Passed.ensures.empty in
-    record {
-      long = c.loop-index.invariant.long;
-      kinds = c.choose.ensures.kinds ∙ kept;
-      same = (c.in-Passed.ensures.same_block.0 ∙ within.0, c.in-Passed.ensures.same_block.1 ∙ within.1);
-      come = come_passed S c.args.passes_syncs a c.args.layer.now p b l come i found m n block none (done chosen.Passed c.in-Passed.ensures.done);
-    }
-
-pub run_block-returns-in-Inside-clause-ran : goal.run_block-returns-in-Inside-clause-ran
-run_block-returns-in-Inside-clause-ran g t c =
-    let S = lent c.args.setting in
-    let a = at (Block c.args.rest.position) c.args.top.now in
-    let xs = c.args.rest.statements.now in
-    let index = c.loop-index.index in
-    let i = c.index-statements-index.result in
-    let p : Position = record { block = c.args.rest.position.block; index = index } in
-    let there : index < length xs = search rules in
-    let before = c.loop-index.top in
-    let l0 = c.loop-index.layer in
-    let there0 : Some i ≡ instruction_inside S.codes before.procedure (length before.outer) p =
-    sym (slice_get_read xs (length xs) index i refl there c.index-statements-index.is) ∙ c.requires.block index
-    ∙ found_as S.codes c.args.top.now before p c.loop-index.invariant.same.0 c.loop-index.invariant.same.1 in
-    let b = c.perform_short.new.top in
-    let l = c.perform_short.new.layer in
-    let undone = c.in-Nothing.ensures.done in
-    let come : ComesTo S c.args.passes_syncs a c.args.layer.now None (at (Block p) b) l =
-    come_none S c.args.passes_syncs a c.args.layer.now p before l0 c.loop-index.invariant.come i there0 b l undone in
-    let within : IsInBlock c.args.top.now b =
-    (ap (λ (z : PlainActivation). z.procedure) undone.0 ∙ c.loop-index.invariant.same.0, ap (λ (z : PlainActivation). z.outer) undone.0 ∙ c.loop-index.invariant.same.1) in
-    let kept : l.kinds ≡ c.args.layer.now.kinds = c.perform_short.ensures.kinds ∙ c.loop-index.invariant.kinds in
-    let found : Some i ≡ instruction_inside S.codes b.procedure (length b.outer) p = there0 ∙ found_as S.codes before b p (ap (λ (z : PlainActivation). z.procedure) undone.0) (ap (λ (z : PlainActivation). z.outer) undone.0) in
-    let m = c.choose.new.top in
-    let n = c.choose.new.layer in
-    let block = c.in-If.second in
-    let done : (ch : Chosen) → Chooses c.args.passes_syncs p block (λ kit. evaluated i.number (value_at S.tables b.slots (expression c.in-If.condition)) (choosing p c.in-If.first block)) b l ch m n
-    → Chooses c.args.passes_syncs p block (λ kit. performed S kit p i.number i.operation) b l ch m n =
-    λ ch h. chooses_if S c.args.passes_syncs p i.number c.in-If.condition c.in-If.first block i.operation b l ch m n c.in-If.is h in
-    run_join S c.args.passes_syncs a c.args.layer.now m n c.ran_to-in-Inside.result m c.loop-index.above n
-    (come_inside S c.args.passes_syncs a c.args.layer.now p b l come i found m n block (done chosen.Inside c.in-Inside.ensures.done))
-    (c.ran_to-in-Inside.ensures.runs c.args.passes_syncs n c.loop-index.above)
-
-pub run_block-returns-in-Nothing-choose-clause-ran : goal.run_block-returns-in-Nothing-choose-clause-ran
-run_block-returns-in-Nothing-choose-clause-ran g t c =
-    let S = lent c.args.setting in
-    let a = at (Block c.args.rest.position) c.args.top.now in
-    let xs = c.args.rest.statements.now in
-    let index = c.loop-index.index in
-    let i = c.index-statements-index.result in
-    let p : Position = record { block = c.args.rest.position.block; index = index } in
-    let there : index < length xs = search rules in
-    let before = c.loop-index.top in
-    let l0 = c.loop-index.layer in
-    let there0 : Some i ≡ instruction_inside S.codes before.procedure (length before.outer) p =
-    sym (slice_get_read xs (length xs) index i refl there c.index-statements-index.is) ∙ c.requires.block index
-    ∙ found_as S.codes c.args.top.now before p c.loop-index.invariant.same.0 c.loop-index.invariant.same.1 in
-    let b = c.perform_short.new.top in
-    let l = c.perform_short.new.layer in
-    let undone = c.in-Nothing.ensures.done in
-    let come : ComesTo S c.args.passes_syncs a c.args.layer.now None (at (Block p) b) l =
-    come_none S c.args.passes_syncs a c.args.layer.now p before l0 c.loop-index.invariant.come i there0 b l undone in
-    let within : IsInBlock c.args.top.now b =
-    (ap (λ (z : PlainActivation). z.procedure) undone.0 ∙ c.loop-index.invariant.same.0, ap (λ (z : PlainActivation). z.outer) undone.0 ∙ c.loop-index.invariant.same.1) in
-    let kept : l.kinds ≡ c.args.layer.now.kinds = c.perform_short.ensures.kinds ∙ c.loop-index.invariant.kinds in
-    let found : Some i ≡ instruction_inside S.codes b.procedure (length b.outer) p = there0 ∙ found_as S.codes before b p (ap (λ (z : PlainActivation). z.procedure) undone.0) (ap (λ (z : PlainActivation). z.outer) undone.0) in
-    let m = c.choose.new.top in
-    let n = c.choose.new.layer in
-    let block = c.in-If.second in
-    let done : (ch : Chosen) → Chooses c.args.passes_syncs p block (λ kit. evaluated i.number (value_at S.tables b.slots (expression c.in-If.condition)) (choosing p c.in-If.first block)) b l ch m n
-    → Chooses c.args.passes_syncs p block (λ kit. performed S kit p i.number i.operation) b l ch m n =
-    λ ch h. chooses_if S c.args.passes_syncs p i.number c.in-If.condition c.in-If.first block i.operation b l ch m n c.in-If.is h in
-    subst (λ (y : PlainActivation). StopsBy S c.args.passes_syncs a c.args.layer.now 0 y c.loop-index.above n) (sym c.stand-in-Nothing-choose.ensures.stands)
-    (stop_here S c.args.passes_syncs a c.args.layer.now (at (Block p) m) c.loop-index.above n
-    (come_none S c.args.passes_syncs a c.args.layer.now p b l come i found m n (done chosen.Nothing c.in-Nothing-choose.ensures.done)))
-
 pub run_block-enters-requires-clause-found : goal.run_block-enters-requires-clause-found
 run_block-enters-requires-clause-found g t c κs within =
     let S = lent c.args.setting in
@@ -324,7 +58,7 @@ run_block-enters-requires-clause-found g t c κs within =
     let there0 : Some i ≡ instruction_inside S.codes before.procedure (length before.outer) p =
     sym (slice_get_read xs (length xs) index i refl there c.index-statements-index.is) ∙ c.requires.block index
     ∙ found_as S.codes c.args.top.now before p c.loop-index.invariant.same.0 c.loop-index.invariant.same.1 in
-    let b = c.perform_short.new.top in
+    let b = c.perform.new.top in
     let undone = c.in-Nothing.ensures.done in
     there0 ∙ found_as S.codes before b p (ap (λ (z : PlainActivation). z.procedure) undone.0) (ap (λ (z : PlainActivation). z.outer) undone.0)
 
@@ -342,14 +76,14 @@ run_block-loop-index-preserved-in-Back g t c =
     let there0 : Some i ≡ instruction_inside S.codes before.procedure (length before.outer) p =
     sym (slice_get_read xs (length xs) index i refl there c.index-statements-index.is) ∙ c.requires.block index
     ∙ found_as S.codes c.args.top.now before p c.loop-index.invariant.same.0 c.loop-index.invariant.same.1 in
-    let b = c.perform_short.new.top in
-    let l = c.perform_short.new.layer in
+    let b = c.perform.new.top in
+    let l = c.perform.new.layer in
     let undone = c.in-Nothing.ensures.done in
     let come : ComesTo S c.args.passes_syncs a c.args.layer.now None (at (Block p) b) l =
     come_none S c.args.passes_syncs a c.args.layer.now p before l0 c.loop-index.invariant.come i there0 b l undone in
     let within : IsInBlock c.args.top.now b =
     (ap (λ (z : PlainActivation). z.procedure) undone.0 ∙ c.loop-index.invariant.same.0, ap (λ (z : PlainActivation). z.outer) undone.0 ∙ c.loop-index.invariant.same.1) in
-    let kept : l.kinds ≡ c.args.layer.now.kinds = c.perform_short.ensures.kinds ∙ c.loop-index.invariant.kinds in
+    let kept : l.kinds ≡ c.args.layer.now.kinds = c.perform.ensures.kinds ∙ c.loop-index.invariant.kinds in
     let found : Some i ≡ instruction_inside S.codes b.procedure (length b.outer) p = there0 ∙ found_as S.codes before b p (ap (λ (z : PlainActivation). z.procedure) undone.0) (ap (λ (z : PlainActivation). z.outer) undone.0) in
     let called = c.in-Back.ensures.called in
     record {
@@ -373,20 +107,20 @@ run_block-returns-in-Stays-clause-ran g t c =
     let there0 : Some i ≡ instruction_inside S.codes before.procedure (length before.outer) p =
     sym (slice_get_read xs (length xs) index i refl there c.index-statements-index.is) ∙ c.requires.block index
     ∙ found_as S.codes c.args.top.now before p c.loop-index.invariant.same.0 c.loop-index.invariant.same.1 in
-    let b = c.perform_short.new.top in
-    let l = c.perform_short.new.layer in
+    let b = c.perform.new.top in
+    let l = c.perform.new.layer in
     let undone = c.in-Nothing.ensures.done in
     let come : ComesTo S c.args.passes_syncs a c.args.layer.now None (at (Block p) b) l =
     come_none S c.args.passes_syncs a c.args.layer.now p before l0 c.loop-index.invariant.come i there0 b l undone in
     let within : IsInBlock c.args.top.now b =
     (ap (λ (z : PlainActivation). z.procedure) undone.0 ∙ c.loop-index.invariant.same.0, ap (λ (z : PlainActivation). z.outer) undone.0 ∙ c.loop-index.invariant.same.1) in
-    let kept : l.kinds ≡ c.args.layer.now.kinds = c.perform_short.ensures.kinds ∙ c.loop-index.invariant.kinds in
+    let kept : l.kinds ≡ c.args.layer.now.kinds = c.perform.ensures.kinds ∙ c.loop-index.invariant.kinds in
     let found : Some i ≡ instruction_inside S.codes b.procedure (length b.outer) p = there0 ∙ found_as S.codes before b p (ap (λ (z : PlainActivation). z.procedure) undone.0) (ap (λ (z : PlainActivation). z.outer) undone.0) in
     stop_join (lent c.args.setting) c.args.passes_syncs (at (Block c.args.rest.position) c.args.top.now) c.args.layer.now (at (Block p) b) l c.in-Stays.waiting c.enters.new.top c.enters.new.above c.enters.new.layer
     come c.in-Stays.ensures.called
 
-pub run_block-perform_short-requires-clause-short : goal.run_block-perform_short-requires-clause-short
-run_block-perform_short-requires-clause-short g t c κs within =
+pub run_block-perform-requires-clause-short : goal.run_block-perform-requires-clause-short
+run_block-perform-requires-clause-short g t c κs within =
     let S = lent c.args.setting in
     let a = at (Block c.args.rest.position) c.args.top.now in
     let xs = c.args.rest.statements.now in
@@ -415,9 +149,9 @@ run_block-loop-index-preserved-in-Next g t c =
     ∙ found_as S.codes c.args.top.now b p c.loop-index.invariant.same.0 c.loop-index.invariant.same.1 in
     record {
       long = c.loop-index.invariant.long;
-      kinds = c.perform_short.ensures.kinds ∙ c.loop-index.invariant.kinds;
+      kinds = c.perform.ensures.kinds ∙ c.loop-index.invariant.kinds;
       same = (c.in-Next.ensures.same_block.0 ∙ c.loop-index.invariant.same.0, c.in-Next.ensures.same_block.1 ∙ c.loop-index.invariant.same.1);
-      come = come_short S c.args.passes_syncs a c.args.layer.now p b c.loop-index.layer c.loop-index.invariant.come i found c.perform_short.new.top c.perform_short.new.layer c.in-Next.ensures.same_block.0 c.in-Next.ensures.done;
+      come = come_short S c.args.passes_syncs a c.args.layer.now p b c.loop-index.layer c.loop-index.invariant.come i found c.perform.new.top c.perform.new.layer c.in-Next.ensures.same_block.0 c.in-Next.ensures.done;
     }
 
 pub run_block-returns-in-Gave-clause-ran : goal.run_block-returns-in-Gave-clause-ran
@@ -433,12 +167,12 @@ run_block-returns-in-Gave-clause-ran g t c =
     let found : Some i ≡ instruction_inside S.codes b.procedure (length b.outer) p =
     sym (slice_get_read xs (length xs) index i refl there c.index-statements-index.is) ∙ c.requires.block index
     ∙ found_as S.codes c.args.top.now b p c.loop-index.invariant.same.0 c.loop-index.invariant.same.1 in
-    let n = c.perform_short.new.layer in
+    let n = c.perform.new.layer in
     let v = c.in-Gave.value in
     let same : v ≡ to_z w64 (of_z w64 v) = search rules in
     subst (λ (w : ℤ). ComesTo S c.args.passes_syncs a c.args.layer.now (Some w) c.stand.new.self n) same
     (subst (λ (y : PlainActivation). ComesTo S c.args.passes_syncs a c.args.layer.now (Some v) y n) (sym c.stand.ensures.stands)
-    (come_gave S c.args.passes_syncs a c.args.layer.now p b c.loop-index.layer c.loop-index.invariant.come i found c.perform_short.new.top n v c.in-Gave.ensures.done))
+    (come_gave S c.args.passes_syncs a c.args.layer.now p b c.loop-index.layer c.loop-index.invariant.come i found c.perform.new.top n v c.in-Gave.ensures.done))
 
 pub run_block-returns-in-Moved-clause-ran : goal.run_block-returns-in-Moved-clause-ran
 run_block-returns-in-Moved-clause-ran g t c =
@@ -453,8 +187,8 @@ run_block-returns-in-Moved-clause-ran g t c =
     let found : Some i ≡ instruction_inside S.codes b.procedure (length b.outer) p =
     sym (slice_get_read xs (length xs) index i refl there c.index-statements-index.is) ∙ c.requires.block index
     ∙ found_as S.codes c.args.top.now b p c.loop-index.invariant.same.0 c.loop-index.invariant.same.1 in
-    let m = c.perform_short.new.top in
-    let n = c.perform_short.new.layer in
+    let m = c.perform.new.top in
+    let n = c.perform.new.layer in
     run_join S c.args.passes_syncs a c.args.layer.now m n c.ran_to.result m c.loop-index.above n
     (come_moved S c.args.passes_syncs a c.args.layer.now p b c.loop-index.layer c.loop-index.invariant.come i found m n c.in-Moved.ensures.done)
     (c.ran_to.ensures.runs c.args.passes_syncs n c.loop-index.above)

@@ -1,6 +1,6 @@
 use Rattle.std.proofs.Common.{rules, ◌≡◌, ℤ, inr, subst, to_z, of_z, w64}
 use Rattle.own_statements.specs.Fills.{Fills}
-use Rattle.own_statements.proofs.short_forms.choose_by.Goals as goal
+use Rattle.own_statements.proofs.statements.choose_by.Goals as goal
 
 pub returns-in-Nothing-clause-done : goal.returns-in-Nothing-clause-done
 returns-in-Nothing-clause-done c l o h =

@@ -4,7 +4,7 @@ use Rattle.monoid_laws.specs.declared.Kind.{Kind}
 use Rattle.own_statements.specs.declared.statements.Did.TheVariants.{Nothing, Next}
 use Rattle.own_statements.proofs.AtOnce.{does_at_once}
 use Rattle.own_statements.proofs.Shorts.{taken}
-use Rattle.own_statements.proofs.short_forms.update_by.Goals as goal
+use Rattle.own_statements.proofs.statements.update_by.Goals as goal
 
 pub returns-then-is_ok-clause-done : goal.returns-then-is_ok-clause-done
 returns-then-is_ok-clause-done g c a o read =

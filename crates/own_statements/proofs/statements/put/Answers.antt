@@ -1,0 +1,25 @@
+use Rattle.std.proofs.Common.{rules, ◌≡◌, ℤ, inl, sym, subst, to_z, of_z, w64}
+use Rattle.positions.specs.Activations.{PlainActivation}
+use Rattle.positions.specs.Advance.{evaluated}
+use Rattle.activations.specs.Given.{lent}
+use Rattle.own_statements.specs.declared.short_forms.Target.{Target}
+use Rattle.own_statements.specs.declared.statements.Did.TheVariants.{Next, Gave}
+use Rattle.own_statements.specs.Effects.{Comes, goes_on}
+use Rattle.own_statements.specs.Fills.{Fills}
+use Rattle.own_statements.proofs.Shorts.{binds_found, gives_found}
+use Rattle.own_statements.proofs.statements.put.Goals as goal
+
+pub returns-in-Slot-clause-done : goal.returns-in-Slot-clause-done
+returns-in-Slot-clause-done c l o h =
+    let S = lent c.args.setting in
+    let passes = c.args.here.passes_syncs in
+    let n = c.args.here.statement in
+    let p = c.args.here.position in
+    let a = c.args.top.now in
+    let w = c.args.value in
+    let v = to_z w64 (of_z w64 w) in
+    let same : w ≡ v = search rules in
+    let found : Fills o v l l = subst (λ (x : ℤ). Fills o x l l) same h in
+    subst (λ (t : Target). Comes S passes p (λ kit. evaluated n o (goes_on p t)) a l Next c.bind.new.self l) (sym c.in-Slot.is)
+    (subst (λ (b : PlainActivation). Comes S passes p (λ kit. evaluated n o (goes_on p c.in-Slot.target)) a l Next b l) (sym c.bind.ensures.bound)
+    (inl (binds_found passes p n a l o v found c.in-Slot.name)))
