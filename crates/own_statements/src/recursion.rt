@@ -17,7 +17,7 @@ use evaluation::slot::Slot;
 use evaluation::unread;
 use evaluation::values::without_reading;
 use linked_program::checked::Checked;
-use linked_program::code::{CodeBlock, Expression, Instruction, Operation};
+use linked_program::code::{Expression, Instruction, Operation};
 use meaning::tree::Way;
 use positions::work::Position;
 
@@ -30,78 +30,6 @@ pub enum Found {
     Nothing,
     Next,
     Gave(i64),
-}
-
-/// Whether each statement of a procedure is one whose outcome may be found so, by a look at them: it calls itself and no other one,
-/// and reads nothing. Nothing is claimed of it.
-pub fn calls_itself(program: &Checked, procedure: usize) -> bool {
-    match program.codes().get(procedure) {
-        Some(code) => match code.blocks.first() {
-            Some(body) => is_own_body(body, procedure) && are_short(&code.blocks),
-            None => false,
-        },
-        None => false,
-    }
-}
-
-fn is_own_body(body: &CodeBlock, procedure: usize) -> bool {
-    for instruction in &body.instructions {
-        if !is_own(&instruction.operation, procedure) {
-            return false;
-        }
-    }
-    true
-}
-
-/// Whether there is nothing in each block but the first, or it begins with a return.
-fn are_short(blocks: &[CodeBlock]) -> bool {
-    for place in 1..blocks.len() {
-        match blocks[place].instructions.first() {
-            None => {}
-            Some(first) => match &first.operation {
-                Operation::Return(_) => {}
-                _ => return false,
-            },
-        }
-    }
-    true
-}
-
-fn is_own(operation: &Operation, procedure: usize) -> bool {
-    match operation {
-        Operation::Bind(_, value) => is_silent(value),
-        Operation::Enter(_, way, callee, arguments) => {
-            !is_spawn(*way) && *callee == procedure && are_silent(arguments)
-        }
-        Operation::Sync => true,
-        Operation::If(condition, _, _) => is_silent(condition),
-        Operation::Return(value) => is_silent(value),
-        _ => false,
-    }
-}
-
-fn are_silent(expressions: &[Expression]) -> bool {
-    for expression in expressions {
-        if !is_silent(expression) {
-            return false;
-        }
-    }
-    true
-}
-
-/// Whether an expression reads nothing.
-#[cycle(is_silent)]
-fn is_silent(expression: &Expression) -> bool {
-    match expression {
-        Expression::Number(_) => true,
-        Expression::Slot(_) => true,
-        Expression::Slots(_, _, _) => true,
-        Expression::SlotAndNumber(_, _, _) => true,
-        Expression::NumberAndSlot(_, _, _) => true,
-        Expression::Negate(inner) => is_silent(inner),
-        Expression::Binary(_, left, right) => is_silent(left) && is_silent(right),
-        _ => false,
-    }
 }
 
 /// A procedure whose instances call no other one: its number, and its body; and how many levels there are below an instance.

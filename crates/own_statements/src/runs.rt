@@ -11,12 +11,13 @@ ghost use Rattle.own_statements.specs.Runs.{CallsTo, EndsBy, RunsTo, IsBlock, Is
 
 use crate::filling::fills;
 use crate::ran::{Ended, Inside, Ran};
-use crate::recursion::{Enters, Own, called, calls_itself, is_spawn};
+use crate::recursion::{Enters, Own, called, is_spawn};
 use crate::statements::{Did, perform};
 use activations::activation::{Activation, FIRST, next_of};
 use activations::code::instructions;
 use activations::setting::Setting;
 use layers::layer::{DEEPEST, Layer};
+use linked_program::checked::Checked;
 use linked_program::code::{Instruction, Operation};
 use positions::work::{Position, Work};
 use view_pool::View;
@@ -242,10 +243,20 @@ fn enters<V: View>(
     ensures long { length above.new ≡ length above.old }
     ensures kinds { layer.new.kinds ≡ layer.old.kinds }
 {
-    if !passes_syncs {
+    if !passes_syncs || !stays_beside(setting.program, site.statement) {
         return Inside::Nothing;
     }
     call_inside(layer, setting, site, top, above, numbers)
+}
+
+/// Whether the instance that a statement enters may be over without a place on the strand, so that it is worth a try. Nothing is
+/// claimed of it.
+#[inline(always)]
+fn stays_beside(program: &Checked, statement: &Instruction) -> bool {
+    match &statement.operation {
+        Operation::Enter(_, _, callee, _) => program.hints(*callee).beside,
+        _ => false,
+    }
 }
 
 /// The same, where syncs may be passed. It is compiled by itself, since it comes back to itself.
@@ -270,6 +281,9 @@ fn call_inside<V: View>(
         return Inside::Nothing;
     };
     let program = setting.program;
+    // (it is looked up here once, and not wherever a part of it is needed)
+    let size = program.slots(*callee);
+    let body = instructions(program, *callee, 0, 0);
     if top.left() == 0 || is_spawn(*way) || program.is_memo(*callee) {
         return Inside::Nothing;
     }
@@ -282,14 +296,13 @@ fn call_inside<V: View>(
     let Some((child, rest)) = above.split_first_mut() else {
         return Inside::Nothing;
     };
-    let size = program.slots(*callee);
     let arguments = arguments.as_slice();
     if !fills(layer, child, top, size, arguments, setting.tables) {
         return Inside::Nothing;
     }
     let callee = Callee {
         procedure: *callee,
-        body: instructions(program, *callee, 0, 0),
+        body,
         left: top.left() - 1,
     };
     top.wait_at(false, *into, next_of(site.position));
@@ -321,7 +334,9 @@ fn found_inside<V: View>(
 {
     match &site.statement.operation {
         Operation::Enter(_, _, callee, _) => {
-            *callee == top.procedure() && find_inside(layer, setting, site, top)
+            *callee == top.procedure()
+                && setting.program.hints(*callee).own
+                && find_inside(layer, setting, site, top)
         }
         _ => false,
     }
@@ -352,7 +367,7 @@ fn find_inside<V: View>(
     if procedure != top.procedure() || program.is_memo(procedure) {
         return false;
     }
-    if top.slots().len() != program.slots(procedure) || !calls_itself(program, procedure) {
+    if top.slots().len() != program.slots(procedure) {
         return false;
     }
     let Some(_) = top.children().checked_add(1) else {

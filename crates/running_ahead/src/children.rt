@@ -25,7 +25,7 @@ use linked_program::code::{Expression, Instruction, Operation};
 use meaning::tree::Way;
 use own_statements::filling::fills;
 use own_statements::ran::Ended;
-use own_statements::recursion::{Enters, Own, called, calls_itself};
+use own_statements::recursion::{Enters, Own, called};
 use own_statements::runs::Callee as Begun;
 use positions::phase::Phase;
 use positions::start::Start;
@@ -193,8 +193,7 @@ fn is_found_at_once<V: View>(
     if machine.top.procedure() != callee.procedure || is_spawn(callee.way) {
         return false;
     }
-    // (an instance that has spawned isn't of such a procedure)
-    if machine.top.waiting().spawned {
+    if !setting.program.hints(callee.procedure).own {
         return false;
     }
     find_at_once(machine, setting, callee, body)
@@ -222,7 +221,7 @@ fn find_at_once<V: View>(
     ensures running { machine.new.phase ≡ Phase.Running }
 {
     let left = machine.top.left();
-    if machine.top.slots().len() != body.size || !calls_itself(setting.program, callee.procedure) {
+    if machine.top.slots().len() != body.size {
         return false;
     }
     if !has_room_above(machine) {
