@@ -303,7 +303,7 @@ pub(crate) fn value_of<V: View>(
     slots: &[Slot],
     tables: &Tables,
 ) -> Option<i64>
-    ensures value { IfSome result (λ v. HasValue tables.now.tables slots.now layer.now value v) }
+    ensures value { IfSome result (λ v. HasValue tables.now.tables slots.now layer.now value.entry v) }
 {
     match value {
         Value::Later => None,
