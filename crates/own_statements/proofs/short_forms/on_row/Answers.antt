@@ -12,5 +12,7 @@ returns-in-Some g c =
     let first : to_z w64 (of_z w64 x) ≡ x = search rules in
     let second : to_z w64 (of_z w64 y) ≡ y = search rules in
     let keeps : c.args.layer.now.keeps ≡ false = search rules in
-    record { value = λ v is. unkept_fills (value_at c.args.tables.now.tables c.args.slots.now (on_row op c.args.cells.now)) v c.args.layer.now
-        (c.in-Some.ensures.cells op v (subst (λ (n : ℤ). applied op n y ≡ pure v) first (subst (λ (n : ℤ). applied op (to_z w64 (of_z w64 x)) n ≡ pure v) second is))) keeps }
+    record {
+      value = λ v is. unkept_fills (value_at c.args.tables.now.tables c.args.slots.now (on_row op c.args.cells.now)) v c.args.layer.now
+          (c.in-Some.ensures.cells op v (subst (λ (n : ℤ). applied op n y ≡ pure v) first (subst (λ (n : ℤ). applied op (to_z w64 (of_z w64 x)) n ≡ pure v) second is))) keeps;
+    }
