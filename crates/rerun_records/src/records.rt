@@ -383,7 +383,10 @@ impl Records {
             return Some(u32::MAX);
         }
         let stale = self.blocks.many_stale()?;
-        Some(stale.min(self.len() as u32))
+        match u32::try_from(self.len()) {
+            Ok(most) => Some(stale.min(most)),
+            Err(_) => Some(stale),
+        }
     }
 
     /// Takes out the places of records that may be put into blocks: those put in since that was done last, and those of which a
