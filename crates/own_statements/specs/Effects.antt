@@ -30,7 +30,7 @@ use Rattle.own_statements.specs.Paths.{Chooses, Does}
 abbrev pub HasValue : Tables → List Slot → PlainLayer → Value → ℤ → Type 0
 HasValue ts slots l value.Later v = ⊥
 HasValue ts slots l (value.Found w) v = v ≡ w
-HasValue ts slots l (value.Joined op x y) v = applied op x y ≡ pure v
+HasValue ts slots l (value.Joined x y op) v = applied op x y ≡ pure v
 HasValue ts slots l (value.Of x) v = Fills (value_at ts slots (expression x.now)) v l l
 
 -- where it comes to a number, that is the value of the expression, and nothing is to be noted for it
@@ -41,7 +41,7 @@ Finds ts slots l w e = (v : ℤ) → HasValue ts slots l w v → Fills (value_at
 abbrev pub IsPart : Bool → Tables → List Slot → Value → Linked → Type 0
 IsPart keeps ts slots value.Later e = Unit {0}
 IsPart keeps ts slots (value.Found v) e = Reads keeps (value_at ts slots e) v
-IsPart keeps ts slots (value.Joined op x y) e = (v : ℤ) → applied op x y ≡ pure v → Reads keeps (value_at ts slots e) v
+IsPart keeps ts slots (value.Joined x y op) e = (v : ℤ) → applied op x y ≡ pure v → Reads keeps (value_at ts slots e) v
 IsPart keeps ts slots (value.Of x) e = Unit {0}
 
 -- ---- what is done

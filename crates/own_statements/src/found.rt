@@ -81,7 +81,7 @@ fn value_in(expression: &Expression, around: &Around<'_>) -> Option<i64>
     ensures value { IfSome result (λ v. Reads around.now.keeps (value_at around.now.tables.now.tables around.now.slots.now (plain expression.now)) v) }
 {
     match part_of(expression, around) {
-        Value::Joined(operator, left, right) => joined(operator, left, right),
+        Value::Joined(left, right, operator) => joined(operator, left, right),
         Value::Found(value) => Some(value),
         _ => None,
     }
@@ -96,23 +96,23 @@ fn part_of<'a>(expression: &Expression, around: &Around<'_>) -> Value<'a>
     match expression {
         Expression::Binary(operator, left, right) => match value_in(left, around) {
             Some(left) => match operand(right, around) {
-                Some(right) => Value::Joined(*operator, left, right),
+                Some(right) => Value::Joined(left, right, *operator),
                 None => Value::Later,
             },
             None => Value::Later,
         },
         Expression::SlotAndNumber(operator, left, right) => {
-            Value::Joined(*operator, number_in(around.slots, *left), *right)
+            Value::Joined(number_in(around.slots, *left), *right, *operator)
         }
         Expression::Slots(operator, left, right) => {
             Value::Joined(
-                *operator,
                 number_in(around.slots, *left),
                 number_in(around.slots, *right),
+                *operator,
             )
         }
         Expression::NumberAndSlot(operator, left, right) => {
-            Value::Joined(*operator, *left, number_in(around.slots, *right))
+            Value::Joined(*left, number_in(around.slots, *right), *operator)
         }
         Expression::SlotCell(table, slot, column) => {
             found(cell_around(expression, around, *table, *slot, *column))

@@ -25,12 +25,13 @@ pub enum Target {
     Back,
 }
 
-/// A statement's value: it isn't found at once; it is that number; an operator makes it of two; or it is that of an expression.
+/// A statement's value: it isn't found at once; it is that number; an operator makes it of two; or it is that of an expression. The
+/// operator stands last: beside the tag it would be put into one word with that, and each step taken apart again.
 #[derive(Clone, Copy)]
 pub enum Value<'a> {
     Later,
     Found(i64),
-    Joined(Operator, i64, i64),
+    Joined(i64, i64, Operator),
     Of(&'a Expression),
 }
 
@@ -234,7 +235,7 @@ fn of_slot<'a>(slot: usize, slots: &[Slot]) -> Value<'a>
 fn on_slots<'a>(operator: Operator, left: usize, right: usize, slots: &[Slot]) -> Value<'a>
     ensures value { (all : TableList) (l : PlainLayer) → Finds all slots.now l result (joined_by operator (slot_of left) (slot_of right)) }
 {
-    Value::Joined(operator, number_in(slots, left), number_in(slots, right))
+    Value::Joined(number_in(slots, left), number_in(slots, right), operator)
 }
 
 /// The value of an operator on what a slot holds and a number.
@@ -242,7 +243,7 @@ fn on_slots<'a>(operator: Operator, left: usize, right: usize, slots: &[Slot]) -
 fn on_left<'a>(operator: Operator, left: usize, right: i64, slots: &[Slot]) -> Value<'a>
     ensures value { (all : TableList) (l : PlainLayer) → Finds all slots.now l result (joined_by operator (slot_of left) (constant right)) }
 {
-    Value::Joined(operator, number_in(slots, left), right)
+    Value::Joined(number_in(slots, left), right, operator)
 }
 
 /// The value of an operator on a number and what a slot holds.
@@ -250,7 +251,7 @@ fn on_left<'a>(operator: Operator, left: usize, right: i64, slots: &[Slot]) -> V
 fn on_right<'a>(operator: Operator, left: i64, right: usize, slots: &[Slot]) -> Value<'a>
     ensures value { (all : TableList) (l : PlainLayer) → Finds all slots.now l result (joined_by operator (constant left) (slot_of right)) }
 {
-    Value::Joined(operator, left, number_in(slots, right))
+    Value::Joined(left, number_in(slots, right), operator)
 }
 
 /// The value of an operator on two cells of one row, where that is found at once and no reading is kept.
@@ -268,7 +269,7 @@ fn on_row<'a, V: View>(
         return Value::Later;
     }
     match two_at_once(cells, slots, tables) {
-        Some((left, right)) => Value::Joined(operator, left, right),
+        Some((left, right)) => Value::Joined(left, right, operator),
         None => Value::Later,
     }
 }
@@ -308,7 +309,7 @@ pub(crate) fn value_of<V: View>(
     match value {
         Value::Later => None,
         Value::Found(number) => Some(number),
-        Value::Joined(operator, left, right) => joined(operator, left, right),
+        Value::Joined(left, right, operator) => joined(operator, left, right),
         Value::Of(expression) => given_at_once(layer, expression, slots, tables),
     }
 }
