@@ -62,8 +62,8 @@ run_block-enters-requires-clause-found g t c κs within =
     let undone = c.in-Nothing.ensures.done in
     there0 ∙ found_as S.codes before b p (ap (λ (z : PlainActivation). z.procedure) undone.0) (ap (λ (z : PlainActivation). z.outer) undone.0)
 
-pub run_block-loop-index-preserved-in-Back : goal.run_block-loop-index-preserved-in-Back
-run_block-loop-index-preserved-in-Back g t c =
+pub run_block-loop-index-preserved : goal.run_block-loop-index-preserved
+run_block-loop-index-preserved g t c =
     let S = lent c.args.setting in
     let a = at (Block c.args.rest.position) c.args.top.now in
     let xs = c.args.rest.statements.now in

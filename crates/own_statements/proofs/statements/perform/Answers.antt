@@ -89,7 +89,7 @@ returns-in-Some-clause-done g c =
     let w = c.in-Some.value in
     let v = to_z w64 (of_z w64 w) in
     let same : w ≡ v = search rules in
-    let is : HasValue S.tables a.slots l c.in-Value.value w = subst (λ (ss : List Slot). HasValue S.tables ss l c.in-Value.value w) c.slots-2.ensures.slots c.in-Some.ensures.value in
+    let is : HasValue S.tables a.slots l c.in-Value.value w = subst (λ (ss : List Slot). HasValue S.tables ss l c.in-Value.value w) c.slots-in-Value.ensures.slots c.in-Some.ensures.value in
     let found : Fills (value_at S.tables a.slots says.0) v l l =
     subst (λ (x : ℤ). Fills (value_at S.tables a.slots says.0) x l l) same
     (subst (λ (ss : List Slot). (x : ℤ) → HasValue S.tables ss l c.in-Value.value x → Fills (value_at S.tables ss says.0) x l l) c.slots.ensures.slots says.2 w is) in

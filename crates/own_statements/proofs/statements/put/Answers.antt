@@ -3,10 +3,11 @@ use Rattle.positions.specs.Activations.{PlainActivation}
 use Rattle.positions.specs.Advance.{evaluated}
 use Rattle.activations.specs.Given.{lent}
 use Rattle.own_statements.specs.declared.short_forms.Target.{Target}
-use Rattle.own_statements.specs.declared.statements.Did.TheVariants.{Next, Gave}
+use Rattle.own_statements.specs.declared.short_forms.Target.TheVariants as target
+use Rattle.own_statements.specs.declared.statements.Did.TheVariants.{Next}
 use Rattle.own_statements.specs.Effects.{Comes, goes_on}
 use Rattle.own_statements.specs.Fills.{Fills}
-use Rattle.own_statements.proofs.Shorts.{binds_found, gives_found}
+use Rattle.own_statements.proofs.Shorts.{binds_found}
 use Rattle.own_statements.proofs.statements.put.Goals as goal
 
 pub returns-in-Slot-clause-done : goal.returns-in-Slot-clause-done
@@ -21,5 +22,16 @@ returns-in-Slot-clause-done c l o h =
     let same : w ≡ v = search rules in
     let found : Fills o v l l = subst (λ (x : ℤ). Fills o x l l) same h in
     subst (λ (t : Target). Comes S passes p (λ kit. evaluated n o (goes_on p t)) a l Next c.bind.new.self l) (sym c.in-Slot.is)
-    (subst (λ (b : PlainActivation). Comes S passes p (λ kit. evaluated n o (goes_on p c.in-Slot.target)) a l Next b l) (sym c.bind.ensures.bound)
+    (subst (λ (b : PlainActivation). Comes S passes p (λ kit. evaluated n o (goes_on p (target.Slot c.in-Slot.name))) a l Next b l) (sym c.bind.ensures.bound)
     (inl (binds_found passes p n a l o v found c.in-Slot.name)))
+
+pub returns-in-Blocks-clause-done : goal.returns-in-Blocks-clause-done
+returns-in-Blocks-clause-done c l o h =
+    let S = lent c.args.setting in
+    let n = c.args.here.statement in
+    let p = c.args.here.position in
+    let w = c.args.value in
+    let same : w ≡ to_z w64 (of_z w64 w) = search rules in
+    let found : Fills o (to_z w64 (of_z w64 w)) l l = subst (λ (x : ℤ). Fills o x l l) same h in
+    subst (λ (t : Target). Comes S c.args.here.passes_syncs p (λ kit. evaluated n o (goes_on p t)) c.args.top.now l c.choose_by.result c.choose_by.new.top l) (sym c.in-Blocks.is)
+    (c.choose_by.ensures.done l o found)
