@@ -47,7 +47,8 @@ pub enum Effect<'a> {
     Value(Value<'a>, Target),
 }
 
-/// What a statement comes to over slots. Only a layer that keeps no readings lets tables be read for a short form.
+/// What a statement comes to over slots. Only a layer that keeps no readings lets tables be read for a short form. LLVM makes one switch of
+/// this match and those behind it as long as few forms are left to them, which is why it has most of the forms itself.
 #[inline(always)]
 pub(crate) fn effect_of<'a, V: View>(
     layer: &Layer<V>,
@@ -63,16 +64,36 @@ pub(crate) fn effect_of<'a, V: View>(
         ShortForm::UpdateSlot(reducer, slot) => Effect::One(*reducer, number_in(slots, *slot)),
         ShortForm::UpdateNumber(reducer, number) => Effect::One(*reducer, *number),
         ShortForm::UpdateSlots(reducer, first, second) => {
-            Effect::Two(
-                *reducer,
-                number_in(slots, *first),
-                number_in(slots, *second),
-            )
+            let second = number_in(slots, *second);
+            Effect::Two(*reducer, number_in(slots, *first), second)
         }
         ShortForm::UpdateSlotAndNumber(reducer, slot, number) => {
             Effect::Two(*reducer, number_in(slots, *slot), *number)
         }
-        _ => effect_of_value(layer, &instruction.short, slots, tables),
+        ShortForm::ReturnSlot(slot) => Effect::Value(of_slot(*slot, slots), Target::Back),
+        ShortForm::ReturnNumber(number) => Effect::Value(Value::Found(*number), Target::Back),
+        ShortForm::ReturnSlots(operator, left, right) => {
+            Effect::Value(on_slots(*operator, *left, *right, slots), Target::Back)
+        }
+        ShortForm::ReturnSlotAndNumber(operator, left, right) => {
+            Effect::Value(on_left(*operator, *left, *right, slots), Target::Back)
+        }
+        ShortForm::ReturnNumberAndSlot(operator, left, right) => {
+            Effect::Value(on_right(*operator, *left, *right, slots), Target::Back)
+        }
+        ShortForm::BindSlots(name, operator, left, right) => {
+            let value = on_slots(*operator, *left, *right, slots);
+            Effect::Value(value, Target::Slot(*name))
+        }
+        ShortForm::BindSlotAndNumber(name, operator, left, right) => {
+            let value = on_left(*operator, *left, *right, slots);
+            Effect::Value(value, Target::Slot(*name))
+        }
+        ShortForm::BindNumberAndSlot(name, operator, left, right) => {
+            let value = on_right(*operator, *left, *right, slots);
+            Effect::Value(value, Target::Slot(*name))
+        }
+        _ => effect_of_choice(layer, &instruction.short, slots, tables),
     }
 }
 
@@ -94,9 +115,9 @@ fn effect_of_operation<'a>(operation: &'a Operation) -> Effect<'a>
     }
 }
 
-/// What one comes to whose short form has a value on slots and numbers.
+/// What one comes to whose short form chooses a block by an operator's value on slots and numbers.
 #[inline(always)]
-fn effect_of_value<'a, V: View>(
+fn effect_of_choice<'a, V: View>(
     layer: &Layer<V>,
     short: &'a ShortForm,
     slots: &[Slot],
@@ -106,45 +127,6 @@ fn effect_of_value<'a, V: View>(
         → IsEffect kinds inner tables.now.tables slots.now layer.now act result }
 {
     match short {
-        ShortForm::ReturnSlot(slot) => Effect::Value(of_slot(*slot, slots), Target::Back),
-        ShortForm::ReturnNumber(number) => Effect::Value(Value::Found(*number), Target::Back),
-        ShortForm::ReturnSlots(operator, left, right) => {
-            Effect::Value(on_slots(*operator, *left, *right, slots), Target::Back)
-        }
-        ShortForm::ReturnSlotAndNumber(operator, left, right) => {
-            Effect::Value(on_left(*operator, *left, *right, slots), Target::Back)
-        }
-        ShortForm::ReturnNumberAndSlot(operator, left, right) => {
-            Effect::Value(on_right(*operator, *left, *right, slots), Target::Back)
-        }
-        _ => effect_of_operator(layer, short, slots, tables),
-    }
-}
-
-/// What one comes to whose short form puts an operator's value on slots and numbers into a slot, or chooses a block by it.
-#[inline(always)]
-fn effect_of_operator<'a, V: View>(
-    layer: &Layer<V>,
-    short: &'a ShortForm,
-    slots: &[Slot],
-    tables: &Tables,
-) -> Effect<'a>
-    ensures effect { (kinds : List Kind) (inner : ℕ → Acts) (act : Act) → IsFormOf kinds inner short.now act
-        → IsEffect kinds inner tables.now.tables slots.now layer.now act result }
-{
-    match short {
-        ShortForm::BindSlots(name, operator, left, right) => {
-            let value = on_slots(*operator, *left, *right, slots);
-            Effect::Value(value, Target::Slot(*name))
-        }
-        ShortForm::BindSlotAndNumber(name, operator, left, right) => {
-            let value = on_left(*operator, *left, *right, slots);
-            Effect::Value(value, Target::Slot(*name))
-        }
-        ShortForm::BindNumberAndSlot(name, operator, left, right) => {
-            let value = on_right(*operator, *left, *right, slots);
-            Effect::Value(value, Target::Slot(*name))
-        }
         ShortForm::ChooseSlots(operator, left, right, first, second) => {
             let value = on_slots(*operator, *left, *right, slots);
             Effect::Value(value, Target::Blocks(*first, *second))
