@@ -1,5 +1,5 @@
 //! The statements that an instance does by itself: they enter no other instance.
-ghost use Rattle.std.specs.Prelude.{◌≡◌, ◌+◌, ◌<◌, ◌^◌, ℕ, ℤ, Bool, List, None, true, false, length, map, slice_get, if◌then◌else◌};
+ghost use Rattle.std.specs.Prelude.{◌≡◌, ◌+◌, ◌<◌, ◌^◌, ◌∷◌, [], ℕ, ℤ, Bool, List, None, true, false, length, map, slice_get, if◌then◌else◌};
 ghost use Rattle.linked_program.specs.CodeView.{HasArity, HasShort, expression as plain, instruction_at};
 ghost use Rattle.evaluation.specs.Values.{NumberedOut, pure, value_at, values_at};
 ghost use Rattle.positions.specs.Activations.{PlainActivation};
@@ -78,9 +78,9 @@ pub(crate) fn perform<V: View>(
     match effect_of(layer, instruction, top.slots(), setting.tables) {
         Effect::Other => Did::Nothing,
         Effect::Sync => pass_sync(layer, passes_syncs, position, top),
-        Effect::One(reducer, number) => update_by(layer, setting, here, reducer, &[number]),
+        Effect::One(reducer, number) => update_one(layer, setting, here, reducer, number),
         Effect::Two(reducer, first, second) => {
-            update_by(layer, setting, here, reducer, &[first, second])
+            update_two(layer, setting, here, reducer, first, second)
         }
         Effect::Many(reducer, values) => {
             update_by_all(layer, setting, here, reducer, values, top, numbers)
@@ -113,6 +113,47 @@ fn pass_sync<V: View>(
     } else {
         Did::Nothing
     }
+}
+
+/// Updates a reducer by one number. What an update hands on lies in memory, so it is made here, and not for each statement.
+#[inline(always)]
+fn update_one<V: View>(
+    layer: &mut Layer<V>,
+    setting: Setting<'_>,
+    here: Here,
+    reducer: usize,
+    number: i64,
+) -> Did
+    requires takes { HasArity 1 (slice_get setting.program.now.kinds reducer) }
+    requires kinds { layer.old.kinds ≡ setting.program.now.kinds }
+    ensures done { (a : PlainActivation) (o : NumberedOut (List ℤ)) → o ≡ pure (number ∷ [])
+        → Does here.passes_syncs here.position (λ kit. evaluated here.statement o
+        (combining (slice_get setting.entry.program.now.kinds reducer) here.statement here.position reducer))
+        a layer.old result a layer.new }
+    ensures kinds { layer.new.kinds ≡ layer.old.kinds }
+{
+    update_by(layer, setting, here, reducer, &[number])
+}
+
+/// Updates a reducer by two numbers.
+#[inline(always)]
+fn update_two<V: View>(
+    layer: &mut Layer<V>,
+    setting: Setting<'_>,
+    here: Here,
+    reducer: usize,
+    first: i64,
+    second: i64,
+) -> Did
+    requires takes { HasArity 2 (slice_get setting.program.now.kinds reducer) }
+    requires kinds { layer.old.kinds ≡ setting.program.now.kinds }
+    ensures done { (a : PlainActivation) (o : NumberedOut (List ℤ)) → o ≡ pure (first ∷ second ∷ [])
+        → Does here.passes_syncs here.position (λ kit. evaluated here.statement o
+        (combining (slice_get setting.entry.program.now.kinds reducer) here.statement here.position reducer))
+        a layer.old result a layer.new }
+    ensures kinds { layer.new.kinds ≡ layer.old.kinds }
+{
+    update_by(layer, setting, here, reducer, &[first, second])
 }
 
 /// Updates a reducer by as many numbers as it takes; where memory is refused, or they name no element, nothing has changed.
@@ -160,6 +201,11 @@ fn update_by_all<V: View>(
     ensures same_block { OnNext result (IsInBlock top.old top.new) }
     ensures kinds { layer.new.kinds ≡ layer.old.kinds }
 {
+    let here = Here {
+        statement: here.statement,
+        position: here.position,
+        passes_syncs: here.passes_syncs,
+    };
     if combine_some(layer, setting, here, reducer, values, top, numbers) {
         Did::Next
     } else {
@@ -242,11 +288,34 @@ fn is_empty(program: &Checked, procedure: usize, block: usize) -> bool
     program.instruction(procedure, block, 0).is_none()
 }
 
-/// A statement whose value isn't found at once: its value is found with all that is read for it, and that is noted where the layer keeps
+/// A statement whose value isn't found at once. Where it stands is handed on in memory, so it is put there here, and not for each statement.
+#[inline(always)]
+fn evaluate<V: View>(
+    layer: &mut Layer<V>,
+    setting: Setting<'_>,
+    here: Here,
+    operation: &Operation,
+    top: &mut Activation,
+) -> Did
+    requires room { here.position.index + 1 < 2 ^ 64 }
+    ensures done { Does here.passes_syncs here.position (λ kit. performed
+        (lent setting.entry) kit here.position here.statement operation.now) top.old layer.old result top.new layer.new }
+    ensures same_block { OnNext result (IsInBlock top.old top.new) }
+    ensures kinds { layer.new.kinds ≡ layer.old.kinds }
+{
+    let here = Here {
+        statement: here.statement,
+        position: here.position,
+        passes_syncs: here.passes_syncs,
+    };
+    evaluate_apart(layer, setting, here, operation, top)
+}
+
+/// The same: its value is found with all that is read for it, and that is noted where the layer keeps
 /// readings. Where it has none, or memory is refused, nothing has changed. It is compiled by itself, so that the loop over statements is
 /// small enough to be compiled into those around it.
 #[inline(never)]
-fn evaluate<V: View>(
+fn evaluate_apart<V: View>(
     layer: &mut Layer<V>,
     setting: Setting<'_>,
     here: Here,

@@ -9,11 +9,11 @@ use Rattle.own_statements.specs.Fills.{Fills}
 use Rattle.own_statements.proofs.Shorts.{numbered, comes, short_sync, short_update, short_value}
 use Rattle.own_statements.proofs.statements.perform.Goals as goal
 
-pub update_by-requires-clause-takes : goal.update_by-requires-clause-takes
-update_by-requires-clause-takes g c κs within = (c.in-One.ensures.effect (lent c.args.setting).kinds numbered (c.requires.short numbered)).3
+pub update_one-requires-clause-takes : goal.update_one-requires-clause-takes
+update_one-requires-clause-takes g c κs within = (c.in-One.ensures.effect (lent c.args.setting).kinds numbered (c.requires.short numbered)).3
 
-pub update_by-requires-in-Two-clause-takes : goal.update_by-requires-in-Two-clause-takes
-update_by-requires-in-Two-clause-takes g c κs within = (c.in-Two.ensures.effect (lent c.args.setting).kinds numbered (c.requires.short numbered)).3
+pub update_two-requires-clause-takes : goal.update_two-requires-clause-takes
+update_two-requires-clause-takes g c κs within = (c.in-Two.ensures.effect (lent c.args.setting).kinds numbered (c.requires.short numbered)).3
 
 pub returns-in-Sync-clause-done : goal.returns-in-Sync-clause-done
 returns-in-Sync-clause-done g c =
@@ -41,8 +41,8 @@ returns-in-One-clause-done g c =
     let same : v ≡ to_z w64 (of_z w64 v) = search rules in
     let read : values_at S.tables a.slots says.0 ≡ pure (to_z w64 (of_z w64 v) ∷ []) =
     subst (λ (ss : List Slot). values_at S.tables ss says.0 ≡ pure (v ∷ [])) c.slots.ensures.slots says.2 ∙ ap (λ (x : ℤ). pure (x ∷ [])) same in
-    comes S passes p (λ kit. performed S kit p n i.operation) a l c.update_by.result a c.update_by.new.layer
-    (short_update S passes p n a l c.update_by.result a c.update_by.new.layer i.operation c.in-One.reducer says.0 says.1 (c.update_by.ensures.done a (values_at S.tables a.slots says.0) read))
+    comes S passes p (λ kit. performed S kit p n i.operation) a l c.update_one.result a c.update_one.new.layer
+    (short_update S passes p n a l c.update_one.result a c.update_one.new.layer i.operation c.in-One.reducer says.0 says.1 (c.update_one.ensures.done a (values_at S.tables a.slots says.0) read))
 
 pub returns-in-Two-clause-done : goal.returns-in-Two-clause-done
 returns-in-Two-clause-done g c =
@@ -61,8 +61,8 @@ returns-in-Two-clause-done g c =
     let read : values_at S.tables a.slots says.0 ≡ pure (to_z w64 (of_z w64 v) ∷ to_z w64 (of_z w64 w) ∷ []) =
     subst (λ (ss : List Slot). values_at S.tables ss says.0 ≡ pure (v ∷ w ∷ [])) c.slots.ensures.slots says.2
     ∙ ap (λ (x : ℤ). pure (x ∷ w ∷ [])) same ∙ ap (λ (x : ℤ). pure (to_z w64 (of_z w64 v) ∷ x ∷ [])) other in
-    comes S passes p (λ kit. performed S kit p n i.operation) a l c.update_by-in-Two.result a c.update_by-in-Two.new.layer
-    (short_update S passes p n a l c.update_by-in-Two.result a c.update_by-in-Two.new.layer i.operation c.in-Two.reducer says.0 says.1 (c.update_by-in-Two.ensures.done a (values_at S.tables a.slots says.0) read))
+    comes S passes p (λ kit. performed S kit p n i.operation) a l c.update_two.result a c.update_two.new.layer
+    (short_update S passes p n a l c.update_two.result a c.update_two.new.layer i.operation c.in-Two.reducer says.0 says.1 (c.update_two.ensures.done a (values_at S.tables a.slots says.0) read))
 
 pub returns-in-Many-clause-done : goal.returns-in-Many-clause-done
 returns-in-Many-clause-done g c =

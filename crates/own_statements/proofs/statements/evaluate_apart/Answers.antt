@@ -7,7 +7,7 @@ use Rattle.positions.specs.Advance.{evaluated, binding, choosing, giving, perfor
 use Rattle.activations.specs.Given.{lent}
 use Rattle.own_statements.specs.Paths.{Does}
 use Rattle.own_statements.proofs.Paths.{does_as}
-use Rattle.own_statements.proofs.statements.evaluate.Goals as goal
+use Rattle.own_statements.proofs.statements.evaluate_apart.Goals as goal
 
 pub returns-in-Bind-clause-done : goal.returns-in-Bind-clause-done
 returns-in-Bind-clause-done g c =
