@@ -7,6 +7,7 @@ ghost use Rattle.positions.specs.Layers.{PlainLayer};
 ghost use Rattle.positions.specs.Strands.{is_entry};
 ghost use Rattle.positions.specs.Advance.{evaluated, binding, choosing, combining, giving, moved_on, performed};
 ghost use Rattle.activations.specs.Given.{lent};
+ghost use Rattle.own_statements.specs.declared.statements.Did.TheVariants.{Next, Nothing};
 ghost use Rattle.own_statements.specs.Effects.{Comes, goes_on};
 ghost use Rattle.own_statements.specs.Fills.{Fills};
 ghost use Rattle.own_statements.specs.Paths.{Chooses, Does, OnNext, OnPassed, IsInBlock};
@@ -115,7 +116,8 @@ fn pass_sync<V: View>(
     }
 }
 
-/// Updates a reducer by one number. What an update hands on lies in memory, so it is made here, and not for each statement.
+/// Updates a reducer by one number. Whether that was done is told apart by itself, so that what comes of it
+/// is known where the loop over statements asks.
 #[inline(always)]
 fn update_one<V: View>(
     layer: &mut Layer<V>,
@@ -132,7 +134,31 @@ fn update_one<V: View>(
         a layer.old result a layer.new }
     ensures kinds { layer.new.kinds ≡ layer.old.kinds }
 {
-    update_by(layer, setting, here, reducer, &[number])
+    if updates_one(layer, setting, here, reducer, number) {
+        Did::Next
+    } else {
+        Did::Nothing
+    }
+}
+
+/// The same; whether it was done. What is handed on lies in memory, so it is made here, and not for each statement.
+#[inline(always)]
+fn updates_one<V: View>(
+    layer: &mut Layer<V>,
+    setting: Setting<'_>,
+    here: Here,
+    reducer: usize,
+    number: i64,
+) -> bool
+    requires takes { HasArity 1 (slice_get setting.program.now.kinds reducer) }
+    requires kinds { layer.old.kinds ≡ setting.program.now.kinds }
+    ensures done { (a : PlainActivation) (o : NumberedOut (List ℤ)) → o ≡ pure (number ∷ [])
+        → Does here.passes_syncs here.position (λ kit. evaluated here.statement o
+        (combining (slice_get setting.entry.program.now.kinds reducer) here.statement here.position reducer))
+        a layer.old (if result then Next else Nothing) a layer.new }
+    ensures kinds { layer.new.kinds ≡ layer.old.kinds }
+{
+    updates_by(layer, setting, here, reducer, &[number])
 }
 
 /// Updates a reducer by two numbers.
@@ -153,32 +179,53 @@ fn update_two<V: View>(
         a layer.old result a layer.new }
     ensures kinds { layer.new.kinds ≡ layer.old.kinds }
 {
-    update_by(layer, setting, here, reducer, &[first, second])
+    if updates_two(layer, setting, here, reducer, first, second) {
+        Did::Next
+    } else {
+        Did::Nothing
+    }
 }
 
-/// Updates a reducer by as many numbers as it takes; where memory is refused, or they name no element, nothing has changed.
+/// The same; whether it was done. What is handed on lies in memory, so it is made here, and not for each statement.
 #[inline(always)]
-fn update_by<V: View>(
+fn updates_two<V: View>(
+    layer: &mut Layer<V>,
+    setting: Setting<'_>,
+    here: Here,
+    reducer: usize,
+    first: i64,
+    second: i64,
+) -> bool
+    requires takes { HasArity 2 (slice_get setting.program.now.kinds reducer) }
+    requires kinds { layer.old.kinds ≡ setting.program.now.kinds }
+    ensures done { (a : PlainActivation) (o : NumberedOut (List ℤ)) → o ≡ pure (first ∷ second ∷ [])
+        → Does here.passes_syncs here.position (λ kit. evaluated here.statement o
+        (combining (slice_get setting.entry.program.now.kinds reducer) here.statement here.position reducer))
+        a layer.old (if result then Next else Nothing) a layer.new }
+    ensures kinds { layer.new.kinds ≡ layer.old.kinds }
+{
+    updates_by(layer, setting, here, reducer, &[first, second])
+}
+
+/// Updates a reducer by as many numbers as it takes; whether that was done. Where memory is refused, or they name no element, nothing has changed.
+#[inline(always)]
+fn updates_by<V: View>(
     layer: &mut Layer<V>,
     setting: Setting<'_>,
     here: Here,
     reducer: usize,
     numbers: &[i64],
-) -> Did
+) -> bool
     requires takes { HasArity (length numbers.now) (slice_get setting.program.now.kinds reducer) }
     requires kinds { layer.old.kinds ≡ setting.program.now.kinds }
     ensures done { (a : PlainActivation) (o : NumberedOut (List ℤ)) → o ≡ pure numbers.now
         → Does here.passes_syncs here.position (λ kit. evaluated here.statement o
         (combining (slice_get setting.entry.program.now.kinds reducer) here.statement here.position reducer))
-        a layer.old result a layer.new }
+        a layer.old (if result then Next else Nothing) a layer.new }
     ensures kinds { layer.new.kinds ≡ layer.old.kinds }
 {
     let kind = &setting.program.kinds()[reducer];
-    if layer.update_fitting(kind, reducer, numbers).is_ok() {
-        Did::Next
-    } else {
-        Did::Nothing
-    }
+    layer.update_fitting(kind, reducer, numbers).is_ok()
 }
 
 /// Updates a reducer by the values of whatever expressions.
@@ -308,7 +355,13 @@ fn evaluate<V: View>(
         position: here.position,
         passes_syncs: here.passes_syncs,
     };
-    evaluate_apart(layer, setting, here, operation, top)
+    // (each outcome is named anew: else the loop over statements would ask again what came of those that were done at once)
+    match evaluate_apart(layer, setting, here, operation, top) {
+        Did::Next => Did::Next,
+        Did::Moved => Did::Moved,
+        Did::Gave(value) => Did::Gave(value),
+        Did::Nothing => Did::Nothing,
+    }
 }
 
 /// The same: its value is found with all that is read for it, and that is noted where the layer keeps
