@@ -146,6 +146,7 @@ impl<J: Run + Ledger + Stocked + Send, D: Deques, V: View> Floor<'_, J, D, V> {
 
     /// What there is for a worker without a strand that has the lock, and gives it up. A thief comes to its point while it holds the lock. Who leaves
     /// takes two boxes of folded strands along and lets them go without the lock: else the first worker would have all of them before the answer.
+    /// Before that it wakes the others, which leave meanwhile.
     fn look<G: Gate>(
         &self,
         desk: MutexGuard<'_, Desk<J, D, V>>,
@@ -168,11 +169,12 @@ impl<J: Run + Ledger + Stocked + Send, D: Deques, V: View> Floor<'_, J, D, V> {
             _ => None,
         };
         drop(desk);
-        drop(spares);
         match &found {
+            Found::Left => self.bell.end(),
             Found::Folded(_) => gate.at(number, Point::Folded),
             _ => {}
         }
+        drop(spares);
         found
     }
 

@@ -169,10 +169,7 @@ where
     for _ in rt.forever() {
         let is_stolen = matches!(&found, Found::Stolen(_));
         found = match found {
-            Found::Left => {
-                floor.bell().end();
-                return seat;
-            }
+            Found::Left => return seat,
             Found::Nothing => {
                 listener.listen();
                 let next = floor.find_if_free(number, &mut seat, gate);
