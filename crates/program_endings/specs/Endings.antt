@@ -1,6 +1,8 @@
 -- By which errors the parts of a session may end.
 use Rattle.std.specs.Prelude.{◌≡◌, ◌⊎◌}
+use Rattle.strand_list.specs.declared.error.BookError.{BookError}
 use Rattle.strand_list.specs.declared.error.BookError.TheVariants as refusal
+use Rattle.sync_fold.specs.Refusals.{WasRefused}
 use Rattle.sync_fold.specs.declared.refusal.Mismatch as declared
 use Rattle.program_endings.specs.declared.session_error.SessionError.{SessionError}
 use Rattle.program_endings.specs.declared.session_error.SessionError.TheVariants.{NoMemory, NoKit, Mismatch, Read, Write, Notes}
@@ -18,11 +20,15 @@ IsRunError error = (error ≡ NoMemory) ⊎ ((error ≡ NoKit) ⊎ ((m : declare
 abbrev pub IsAnswerError : SessionError → Type 0
 IsAnswerError error = IsRunError error ⊎ (error ≡ Notes)
 
--- a mismatch carries what the list of strands refused, which is no want of memory
+-- a call of the list of strands was refused so, which is no want of memory and not for strands that are apart
+abbrev pub IsOfTheList : BookError → Type 0
+IsOfTheList e = (¬ (e ≡ refusal.NoMemory)) × (WasRefused e × (¬ (e ≡ refusal.NotNeighbour)))
+
+-- a mismatch carries why the list of strands refused a worker
 abbrev pub CarriesRefusal : SessionError → Type 0
 CarriesRefusal NoMemory = Unit {0}
 CarriesRefusal NoKit = Unit {0}
-CarriesRefusal (Mismatch m) = ¬ (m.refusal ≡ refusal.NoMemory)
+CarriesRefusal (Mismatch m) = IsOfTheList m.refusal
 CarriesRefusal Read = Unit {0}
 CarriesRefusal Write = Unit {0}
 CarriesRefusal Notes = Unit {0}
