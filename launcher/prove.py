@@ -7,18 +7,21 @@ of crates with edits, which wait for them. And a proof keeps the processors that
 since each is reckoned to take the memory that the first one does. Here each proof of the longest chain, and of those that are
 nearly as long, gets two where there are four processors and memory holds them: the second shares what the first has loaded. It gets
 up to four where no other task would wait for these: such a proof is at work alone for minutes, since all that is left waits for it,
-and four jobs take no more of the processors than two for the same work. A program comes before the tests that are ready by then,
+and four jobs take no more of the processors than two for the same work. All else stands back and gets what these proofs leave of the
+processors: beside equals they have half of one for each job. A program comes before the tests that are ready by then,
 which would go first, being longer: its sessions and figures wait for it. Must-fail edits are tried together, over what the crate's
 proof has checked (launcher/together.py). What is below a crate is found once, which rt finds anew at each look, a minute and a half in
 all before its first proof. And by a signal it is asked to end once what is at work has ended, for a run in another folder (launcher/handover.py).
 Where rt's files are made otherwise than this knows of, this is `rt ci` and no more.
 """
+import contextlib
 import importlib.machinery
 import importlib.util
 import os
 import shutil
 import sys
 import threading
+from concurrent.futures import ThreadPoolExecutor
 
 TOP = os.path.dirname(os.path.dirname(os.path.realpath(__file__)))
 sys.path.insert(0, f"{TOP}/launcher")
@@ -30,6 +33,8 @@ from proved_modules import ProvedModules  # noqa: E402
 FIRST, FURTHER = 3_500_000_000, 1_000_000_000
 # What part of the longest chain's work makes another one long.
 LONG = 0.85
+# How far behind such a chain all others stand, as `nice` counts it.
+BEHIND = 10
 # How many jobs a proof of a long chain has at most beside other tasks, for how many processors it has each, and how many it has at most
 # where no other task would wait.
 BESIDE, EACH, MOST = 2, 2, 4
@@ -124,6 +129,28 @@ def with_jobs(rt, tasks, chains):
     return {name: (*task, call_of(call) if name in chains else call) for name, (*task, call) in tasks.items()}
 
 
+def stand_back():
+    """Has this thread, and all processes that it starts from now on, stand behind the others. There is no way back for it."""
+    with contextlib.suppress(OSError):
+        own = threading.get_native_id()
+        os.setpriority(os.PRIO_PROCESS, own, min(os.getpriority(os.PRIO_PROCESS, own) + BEHIND, 19))
+
+
+def standing_back(call):
+    """The call, by a thread of its own that stands back."""
+
+    def run(given, jobs):
+        with ThreadPoolExecutor(1, initializer=stand_back) as thread:
+            return thread.submit(call, given, jobs).result()
+
+    return run
+
+
+def with_others_behind(tasks, chains):
+    """The tasks, where those of no such chain stand back."""
+    return {name: (*task, call if name in chains else standing_back(call)) for name, (*task, call) in tasks.items()}
+
+
 def is_program(crate):
     """Whether the crate of that name is a program."""
     return os.path.exists(f"{TOP}/crates/{crate}/src/main.rt")
@@ -150,7 +177,8 @@ def work_first(rt, in_lanes):
     def run(tasks):
         behind = without_work(tasks)
         left = {name: task for name, task in tasks.items() if name not in behind}
-        given = in_lanes(with_jobs(rt, together.behind_proofs(programs_first(left)), on_long_chains(left)))
+        chains = on_long_chains(left)
+        given = in_lanes(with_others_behind(with_jobs(rt, together.behind_proofs(programs_first(left)), chains), chains))
         for name in behind:
             *_, call = tasks[name]
             given[name] = call(given, 1)

@@ -1,6 +1,7 @@
 -- The answers to commands, one after another.
-use Rattle.std.proofs.Common.{◌≡◌, ℕ, ◌+◌, ◌<◌, ◌≤◌, List, ◌++◌, map, drop, length, get_or, refl, sym, subst, add-one, arith}
+use Rattle.std.proofs.Common.{◌≡◌, ◌⊎◌, ℕ, ◌+◌, ◌<◌, ◌≤◌, List, [], ◌∷◌, ◌++◌, map, drop, take, take_all, length, get_or, inl, inr, refl, sym, ap, subst, add-one, arith, ◌∙◌}
 use Rattle.std.proofs.Math.Seq.{drop-cons}
+use Rattle.std.proofs.lemmas.List.{map-append, take-append-drop, take_more}
 use Rattle.meaning.specs.Script as script
 use Rattle.meaning.specs.Edits.{Standing}
 use Rattle.meaning.specs.Text.{runs_after}
@@ -8,7 +9,7 @@ use Rattle.script_reader.specs.declared.command.Command.{Command}
 use Rattle.script_reader.specs.Said.{said}
 use Rattle.kept_session.specs.Sessions.{PlainSession}
 use Rattle.checked_defines.specs.Standings.{standing}
-use Rattle.script_session.specs.Answers.{answer_text, answers_from, answers_text, first_answers, standing_after}
+use Rattle.script_session.specs.Answers.{IsLeftByFirst, MayBeLeft, answer_text, answers_from, answers_text, first_answers, left_by_commands, standing_after}
 use Rattle.script_session.specs.Sessions.{answers_of}
 
 -- the answers from a command on: its own first
@@ -28,6 +29,35 @@ one_more_answer s t runs after k items command done all h at left counted before
     subst (λ (x : Command). answers_from s runs (map said (drop k items)) ≡ answer_text s runs (said x) ++ answers_from (standing_after s (said x)) (runs_after runs (said x)) (map said (drop (k + 1) items))) (sym at)
     (answers_from-drop s runs k items command h) in
     rw (left, counted) (subst (λ xs. done ++ xs ≡ all) own before)
+
+left_by-append : (s : Standing) (xs ys : List script.Command) → left_by_commands s (xs ++ ys) ≡ left_by_commands (left_by_commands s xs) ys
+left_by-append s [] ys = refl
+left_by-append s (x ∷ xs) ys = left_by-append (standing_after s x) xs ys
+
+-- a session stands behind so many commands
+module _ (s now : Standing) (k : ℕ) (items : List Command) (stands : now ≡ left_by_commands s (map said (take k items))) where
+  -- behind all
+  pub all_left_by : length items ≤ k → now ≡ left_by_commands s (map said items)
+  all_left_by h = stands ∙ ap (λ xs. left_by_commands s (map said xs)) (take_all k items h)
+
+  pub first_left : IsLeftByFirst s now (map said items)
+  first_left = (map said (take k items), map said (drop k items), sym (map-append (take k items) (drop k items)) ∙ ap (map said) (take-append-drop k items), stands)
+
+  -- and then behind one more
+  pub one_more_left : (t : Standing) (command : Command) → k < length items → command ≡ get_or items k command → t ≡ standing_after now (said command)
+      → t ≡ left_by_commands s (map said (take (k + 1) items))
+  one_more_left t command h at left =
+      let d = get_or items k command in
+      left ∙ ap (standing_after now) (ap said at) ∙ ap (λ u. standing_after u (said d)) stands
+      ∙ sym (left_by-append s (map said (take k items)) (said d ∷ []))
+      ∙ ap (left_by_commands s) (sym (map-append (take k items) (d ∷ [])))
+      ∙ ap (λ xs. left_by_commands s (map said xs)) (sym (take_more items k command h))
+
+-- so it does where the next command may have been answered
+pub first_may_be_left : (s now : Standing) (k : ℕ) (items : List Command) → now ≡ left_by_commands s (map said (take k items)) → (t : Standing) (command : Command)
+    → k < length items → command ≡ get_or items k command → MayBeLeft now t (said command) → IsLeftByFirst s t (map said items)
+first_may_be_left s now k items stands t command h at (inl e) = first_left s t k items (e ∙ stands)
+first_may_be_left s now k items stands t command h at (inr e) = first_left s t (k + 1) items (one_more_left s now k items stands t command h at e)
 
 -- the answers of a session whose tables nothing was edited of
 pub first_written : (s : PlainSession) → s.tables.edits ≡ 0 → (P : List ℕ → Type 0) (script : List ℕ) → P (answers_of s script)

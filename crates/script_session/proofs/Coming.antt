@@ -1,5 +1,5 @@
 -- The answers to a script as its lines come, beside those to the whole of it.
-use Rattle.std.proofs.Common.{◌≡◌, ℕ, ◌+◌, ◌≤◌, Bool, true, false, List, [], ◌∷◌, ◌++◌, All, length, Option, Some, None, IfSome, refl, ap, sym, subst, ◌∙◌, append_assoc, append-nil, arith}
+use Rattle.std.proofs.Common.{◌≡◌, ◌⊎◌, inl, inr, ℕ, ◌+◌, ◌≤◌, Bool, true, false, List, [], ◌∷◌, ◌++◌, All, length, Option, Some, None, IfSome, refl, ap, sym, subst, ◌∙◌, append_assoc, append-nil, arith}
 use Rattle.std.specs.Option.{option_to_list}
 use Rattle.std.specs.Io.KnownBytes.{Appends, Consumes, IsAtEnd}
 use Rattle.meaning.specs.Edits.{Standing}
@@ -9,10 +9,10 @@ use Rattle.program_endings.specs.Written.{HasBeginning, IsNoEnd, WritesAll, Writ
 use Rattle.program_endings.proofs.Written.{Appends-nothing, Appends-more, beginning_of, beginning_after}
 use Rattle.script_reader.specs.Beginnings.{PlainOpen, command_by, command_left, commands_by, commands_left, nothing_come, with_line}
 use Rattle.script_reader.proofs.Beginnings.{alone, at_the_end, commands_of_all, ended, first_line, line_is_come, nothing_is_come, one_more, whole_of}
-use Rattle.script_session.specs.Answers.{answer_text, answers_from, answers_text}
+use Rattle.script_session.specs.Answers.{IsLeftByFirst, answer_text, answers_from, answers_text, left_by_commands, left_by_script}
 use Rattle.kept_session.specs.Sessions.{PlainSession}
 use Rattle.checked_defines.specs.Standings.{standing}
-use Rattle.script_session.specs.Coming.{HasAnswered, answer_to, answers_so_far, first_so_far, runs_behind, standing_behind}
+use Rattle.script_session.specs.Coming.{HasAnswered, MayBeBehind, answer_to, answers_so_far, first_so_far, runs_behind, standing_behind}
 use Rattle.script_session.specs.Sessions.{session_so_far}
 
 -- what was read in two parts
@@ -82,6 +82,14 @@ answers_to : (t : Standing) (runs : ℕ) (command : Option Command) (more : List
 answers_to t runs None more = refl
 answers_to t runs (Some command) more = refl
 
+left_to : (t : Standing) (command : Option Command) (more : List Command) → left_by_commands t (option_to_list command ++ more) ≡ left_by_commands (standing_behind t command) more
+left_to t None more = refl
+left_to t (Some command) more = refl
+
+left_alone : (t : Standing) (command : Option Command) → left_by_commands t (option_to_list command) ≡ standing_behind t command
+left_alone t None = refl
+left_alone t (Some command) = refl
+
 answer_alone : (t : Standing) (runs : ℕ) (command : Option Command) → answers_from t runs (option_to_list command) ≡ answer_to t runs command
 answer_alone t runs None = refl
 answer_alone t runs (Some command) = append-nil (answer_text t runs command)
@@ -108,6 +116,7 @@ nothing_answered s script unread old is = rw is (record {
   read = Consumes-nothing unread;
   written = Appends-nothing old;
   going_on = λ more. refl;
+  leaving = λ more. refl;
 })
 
 module _ (s t : Standing) (runs : ℕ) (script : PlainOpen) (unread left old new : Option (List ℕ)) (h : HasAnswered s t runs script unread left old new) where
@@ -144,7 +153,50 @@ module _ (s t : Standing) (runs : ℕ) (script : PlainOpen) (unread left old new
             ∙ h.going_on (option_to_list (command_by script line) ++ more)
             ∙ ap (λ xs. h.answers ++ xs) (answers_to t runs (command_by script line) more)
             ∙ sym (append_assoc h.answers own (answers_from (standing_behind t (command_by script line)) (runs_behind runs (command_by script line)) more));
+        leaving = λ more.
+            ap (λ cs. left_by_commands s (cs ++ more)) (one_more script h.bytes h.come h.is_come line)
+            ∙ ap (left_by_commands s) (append_assoc (commands_by nothing_come h.come) (option_to_list (command_by script line)) more)
+            ∙ h.leaving (option_to_list (command_by script line) ++ more)
+            ∙ left_to t (command_by script line) more;
       })
+
+  -- the session stands behind the commands of the lines that came
+  standing_then : t ≡ left_by_commands s (commands_by nothing_come h.come)
+  standing_then = sym (h.leaving []) ∙ ap (left_by_commands s) (append-nil (commands_by nothing_come h.come))
+
+  by_first : (u : Standing) → u ≡ t → (rest : List ℕ) → IsLeftByFirst s u (commands (h.bytes ++ rest))
+  by_first u e rest = (commands_by nothing_come h.come, commands_left script (lines rest), sym (commands_of_all script h.bytes h.come h.is_come rest), e ∙ standing_then)
+
+  -- and it may stand behind that of the next line
+  by_next : (line : List ℕ) (u : Standing) → MayBeBehind t u (command_by script line) → (rest : List ℕ) (behind : List (List ℕ)) → lines rest ≡ line ∷ behind
+      → IsLeftByFirst s u (commands (h.bytes ++ rest))
+  by_next line u (inl e) rest behind is = by_first u e rest
+  by_next line u (inr e) rest behind is =
+      let so_far = commands_by nothing_come h.come in
+      let own = option_to_list (command_by script line) in
+      let more = commands_left (with_line script line) behind in (
+        so_far ++ own,
+        more,
+        append_assoc so_far own more ∙ ap (λ cs. so_far ++ cs) (sym (ap (commands_left script) is ∙ first_line script line behind))
+            ∙ sym (commands_of_all script h.bytes h.come h.is_come rest),
+        e ∙ sym (left_alone t (command_by script line)) ∙ sym (h.leaving own),
+      )
+
+  by_known : (u : Standing) → u ≡ t → (known : Option (List ℕ)) → IfSome known (λ rest. IsLeftByFirst s u (commands (h.bytes ++ rest)))
+  by_known u e None = tt
+  by_known u e (Some rest) = by_first u e rest
+
+  pub left_by_lines : (u : Standing) → u ≡ t → IfSome unread (λ known. IsLeftByFirst s u (commands known))
+  left_by_lines u e = split_known unread left h.bytes (λ known. IsLeftByFirst s u (commands known)) h.read (by_known u e left)
+
+  by_next_known : (line : List ℕ) (u : Standing) → MayBeBehind t u (command_by script line) → (known : Option (List ℕ)) → FirstLine known line
+      → IfSome known (λ rest. IsLeftByFirst s u (commands (h.bytes ++ rest)))
+  by_next_known line u may None first = tt
+  by_next_known line u may (Some rest) first = by_next line u may rest first.0 first.1
+
+  pub left_by_next : (line : List ℕ) (u : Standing) → FirstLine left line → MayBeBehind t u (command_by script line) → IfSome unread (λ known. IsLeftByFirst s u (commands known))
+  left_by_next line u first may =
+      split_known unread left h.bytes (λ known. IsLeftByFirst s u (commands known)) h.read (by_next_known line u may left first)
 
   -- a read failed in mid-line
   pub read_failed : (part : List ℕ) (left' : Option (List ℕ)) → All IsNoEnd part → Consumes left left' part → WritesRead (answers_so_far s) unread left' old new
@@ -187,6 +239,15 @@ module _ (s t : Standing) (runs : ℕ) (script : PlainOpen) (unread left old new
         rw (leaves, counts, taken) (ap (answers_from _ _) (at_the_end (with_line script line)) ∙ answer_alone _ _ (command_left (with_line script line))) in
         with_first line line [] (alone line one) ∙ ap (λ xs. h.answers ++ (own ++ xs)) behind ∙ sym (append_assoc h.answers own (answer_to t' runs' (command_left script')))
 
+    -- all that is known leaves what the command that is left leaves
+    left_of_known : left_by_script s (h.bytes ++ line) ≡ standing_behind t' (command_left script')
+    left_of_known =
+        ap (left_by_commands s) (commands_of_all script h.bytes h.come h.is_come line)
+        ∙ h.leaving (commands_left script (lines line))
+        ∙ ap (left_by_commands t) (ap (commands_left script) (alone line one) ∙ first_line script line [])
+        ∙ left_to t (command_by script line) (commands_left (with_line script line) [])
+        ∙ rw (leaves, taken) (ap (left_by_commands _) (at_the_end (with_line script line)) ∙ left_alone _ (command_left (with_line script line)))
+
     written_so_far : Appends old new' (h.answers ++ answer_to t runs (command_by script line))
     written_so_far = Appends-more old new new' h.answers _ h.written wrote
 
@@ -194,9 +255,11 @@ module _ (s t : Standing) (runs : ℕ) (script : PlainOpen) (unread left old new
     known_all P p None b c e = tt
     known_all P p (Some a) b c e = subst (λ rest. P (h.bytes ++ rest)) (sym (last_known (Some a) b line c e)) p
 
+    of_bytes : (P : List ℕ → Type 0) → P (h.bytes ++ line) → IfSome unread P
+    of_bytes P p = split_known unread left h.bytes P h.read (known_all P p left left' took over)
+
     of_all : (P : List ℕ → Type 0) → P (answers_text s (h.bytes ++ line)) → IfSome unread (λ known. P (answers_text s known))
-    of_all P p =
-        split_known unread left h.bytes (λ known. P (answers_text s known)) h.read (known_all (λ known. P (answers_text s known)) p left left' took over)
+    of_all P p = of_bytes (λ known. P (answers_text s known)) p
 
     pub all_answered : (new'' : Option (List ℕ)) → Appends new' new'' (answer_to t' runs' (command_left script')) → WritesAll (answers_text s) unread old new''
     all_answered new'' more = of_all (Appends old new'') (subst (Appends old new'') (sym all_of_known) (Appends-more old new' new'' _ _ written_so_far more))
@@ -205,3 +268,12 @@ module _ (s t : Standing) (runs : ℕ) (script : PlainOpen) (unread left old new
     begun_rest new'' more =
         of_all (HasBeginning old new'')
         (beginning_after old new' new'' (h.answers ++ answer_to t runs (command_by script line)) (answer_to t' runs' (command_left script')) [] _ written_so_far more (ap (λ xs. (h.answers ++ answer_to t runs (command_by script line)) ++ xs) (append-nil (answer_to t' runs' (command_left script'))) ∙ sym all_of_known))
+
+    pub all_left : (t'' : Standing) → t'' ≡ standing_behind t' (command_left script') → IfSome unread (λ known. t'' ≡ left_by_script s known)
+    all_left t'' e = of_bytes (λ known. t'' ≡ left_by_script s known) (e ∙ sym left_of_known)
+
+    -- where the last command may have been answered
+    pub left_by_rest : (u : Standing) → MayBeBehind t' u (command_left script') → IfSome unread (λ known. IsLeftByFirst s u (commands known))
+    left_by_rest u (inl e) = of_bytes (λ known. IsLeftByFirst s u (commands known)) (by_next line u (inr (e ∙ leaves)) line [] (alone line one))
+    left_by_rest u (inr e) =
+        of_bytes (λ known. IsLeftByFirst s u (commands known)) (commands (h.bytes ++ line), [], append-nil (commands (h.bytes ++ line)), e ∙ sym left_of_known)

@@ -41,3 +41,11 @@ on_ok (Err e) P Q f h = tt
 pub also_ok : {T E : Type 0} (r : Result T E) (P : Type 0) → P → OnOk r P
 also_ok (Ok t) P h = h
 also_ok (Err e) P h = tt
+
+pub on_err : {T E : Type 0} (r : Result T E) (P : Type 0) (e : E) → r ≡ Err e → P → OnErr r P
+on_err (Ok t) P e is h = tt
+on_err (Err f) P e is h = h
+
+pub on_err_too : {T E : Type 0} (r : Result T E) (P Q : Type 0) → (P → Q) → OnErr r P → OnErr r Q
+on_err_too (Ok t) P Q f h = tt
+on_err_too (Err e) P Q f h = f h

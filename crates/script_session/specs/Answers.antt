@@ -1,10 +1,10 @@
 -- The text of the answers to a script.
-use Rattle.std.specs.Prelude.{ℕ, List}
+use Rattle.std.specs.Prelude.{◌≡◌, ◌⊎◌, ℕ, List, [], ◌∷◌, ◌++◌}
 use Rattle.meaning.specs.Tables.{Tables}
 use Rattle.meaning.specs.Statements.{reducers}
 use Rattle.meaning.specs.Elision.{from_scratch}
 use Rattle.meaning.specs.Edits.{Standing, Edit, after_edit}
-use Rattle.meaning.specs.Script.{Command}
+use Rattle.meaning.specs.Script.{Command, commands}
 use Rattle.meaning.specs.Text as text
 use Rattle.meaning.specs.Text.{run_text}
 use Rattle.linked_program.specs.Checked.{PlainChecked}
@@ -20,6 +20,23 @@ answer_text = text.answer_text reads_text checks_rules
 -- what a command leaves
 abbrev pub standing_after : Standing → Command → Standing
 standing_after = text.standing_after reads_text checks_rules
+
+-- what commands leave, one after another
+abbrev pub left_by_commands : Standing → List Command → Standing
+left_by_commands s [] = s
+left_by_commands s (c ∷ cs) = left_by_commands (standing_after s c) cs
+
+-- a command has been answered or not: a standing is what it leaves, or the one before it
+abbrev pub MayBeLeft : Standing → Standing → Command → Type 0
+MayBeLeft s t c = (t ≡ s) ⊎ (t ≡ standing_after s c)
+
+-- some first ones of these commands leave it
+abbrev pub IsLeftByFirst : Standing → Standing → List Command → Type 0
+IsLeftByFirst s t cs = (first : List Command) × (rest : List Command) × (first ++ rest ≡ cs) × (t ≡ left_by_commands s first)
+
+-- what a script leaves
+abbrev pub left_by_script : Standing → List ℕ → Standing
+left_by_script s script = left_by_commands s (commands script)
 
 -- what an edit leaves: a refused one changes nothing
 abbrev pub left_by_edit : Standing → Edit → Standing

@@ -1,5 +1,5 @@
 -- The answers to a script as its lines come.
-use Rattle.std.specs.Prelude.{◌≡◌, ℕ, List, [], ◌++◌, Option, Some, None}
+use Rattle.std.specs.Prelude.{◌≡◌, ◌⊎◌, ℕ, List, [], ◌++◌, Option, Some, None}
 use Rattle.std.specs.Io.KnownBytes.{Appends, Consumes}
 use Rattle.meaning.specs.Tables.{Tables}
 use Rattle.meaning.specs.Edits.{Standing}
@@ -8,7 +8,7 @@ use Rattle.meaning.specs.Text.{runs_after}
 use Rattle.linked_program.specs.Checked.{PlainChecked}
 use Rattle.checked_defines.specs.Standings.{standing}
 use Rattle.script_reader.specs.Beginnings.{PlainOpen, IsCome, commands_by, nothing_come, whole_commands}
-use Rattle.script_session.specs.Answers.{answer_text, answers_from, standing_after, unedited}
+use Rattle.script_session.specs.Answers.{answer_text, answers_from, left_by_commands, standing_after, unedited}
 
 -- the answer to a command after so many runs, if there is one; what it leaves, and how many runs there were then
 abbrev pub answer_to : Standing → ℕ → Option Command → List ℕ
@@ -18,6 +18,10 @@ answer_to s runs (Some command) = answer_text s runs command
 abbrev pub standing_behind : Standing → Option Command → Standing
 standing_behind s None = s
 standing_behind s (Some command) = standing_after s command
+
+-- it has been answered or not
+abbrev pub MayBeBehind : Standing → Standing → Option Command → Type 0
+MayBeBehind s t command = (t ≡ s) ⊎ (t ≡ standing_behind s command)
 
 abbrev pub runs_behind : ℕ → Option Command → ℕ
 runs_behind runs None = runs
@@ -39,3 +43,4 @@ pub record HasAnswered (s t : Standing) (runs : ℕ) (script : PlainOpen) (unrea
   pub read : Consumes unread left bytes
   pub written : Appends old new answers
   pub going_on : (more : List Command) → answers_from s 0 (commands_by nothing_come come ++ more) ≡ answers ++ answers_from t runs more
+  pub leaving : (more : List Command) → left_by_commands s (commands_by nothing_come come ++ more) ≡ left_by_commands t more

@@ -5,9 +5,9 @@ ghost use Rattle.meaning.specs.Text.{runs_after};
 ghost use Rattle.script_reader.specs.Beginnings.{command_by, command_left, with_line};
 ghost use Rattle.script_reader.specs.Said.{said};
 ghost use Rattle.kept_session.specs.Sessions.{standing_of};
-ghost use Rattle.script_session.specs.Answers.{answer_text, standing_after};
-ghost use Rattle.script_session.specs.Coming.{answer_to, runs_behind, standing_behind};
-ghost use Rattle.script_session.specs.Sessions.{answers_of, session_so_far};
+ghost use Rattle.script_session.specs.Answers.{MayBeLeft, answer_text, standing_after};
+ghost use Rattle.script_session.specs.Coming.{MayBeBehind, answer_to, runs_behind, standing_behind};
+ghost use Rattle.script_session.specs.Sessions.{Leaves, LeavesByFirst, answers_of, session_so_far};
 ghost use Rattle.program_endings.specs.Endings.{CarriesRefusal};
 ghost use Rattle.program_endings.specs.Written.{HasBeginning, WritesAll, WritesBeginning, WritesRead};
 
@@ -75,7 +75,8 @@ pub fn live_text<V: View, N: Notes, R: Read, W: Write, T: Threads + Wait + Sync,
     answered
 }
 
-/// Does what `live_text` does in a session that is only lent: who owns it goes on with it, or ends it.
+/// Does what `live_text` does in a session that is only lent: who owns it goes on with it, or ends it. Where all is answered the
+/// session is what the script's edits leave, with as many kits; where it ends early, what some first commands leave.
 pub fn answer_lines<V: View, N: Notes, R: Read, W: Write, T: Threads + Wait + Sync, G: Gate>(
     runner: &Runner<'_, T, G>,
     session: &mut Session<V>,
@@ -87,6 +88,9 @@ pub fn answer_lines<V: View, N: Notes, R: Read, W: Write, T: Threads + Wait + Sy
     requires workers { (0 < runner.now.workers) × (runner.now.workers ≤ 16) }
     ensures answered { OnOk result (WritesAll (answers_of session.old)
         (R.remaining reader.old) (W.contents writer.old) (W.contents writer.new)) }
+    ensures after { OnOk result (Leaves (R.remaining reader.old) session.old session.new) }
+    ensures stands { OnErr result (LeavesByFirst (R.remaining reader.old) session.old session.new) }
+    ensures free { OnOk result (length session.new.kits.kits ≡ length session.old.kits.kits) }
     ensures over { OnOk result (IsAtEnd (R.remaining reader.new)) }
     ensures read { result ≡ Err SessionError.Read
         → WritesRead (session_so_far session.old) (R.remaining reader.old) (R.remaining reader.new)
@@ -148,6 +152,7 @@ pub fn answer_line<V: View, N: Notes, W: Write, T: Threads + Wait + Sync, G: Gat
         (answer_to (standing_of session.old) so_far.old.runs (command_by so_far.old.script line.now)) }
     ensures after { OnOk result (standing_of session.new
         ≡ standing_behind (standing_of session.old) (command_by so_far.old.script line.now)) }
+    ensures stands { OnErr result (MayBeBehind (standing_of session.old) (standing_of session.new) (command_by so_far.old.script line.now)) }
     ensures runs { OnOk result (so_far.new.runs ≡ runs_behind so_far.old.runs (command_by so_far.old.script line.now)) }
     ensures taken { OnOk result (so_far.new.script ≡ with_line so_far.old.script line.now) }
     ensures read { OnErr result (result ≢ Err SessionError.Read) }
@@ -206,9 +211,13 @@ fn answer_rest<V: View, N: Notes, W: Write, T: Threads + Wait + Sync, G: Gate>(
         (answer_to (standing_of session.old) so_far.now.runs (command_left so_far.now.script))) }
     ensures beginning { HasBeginning (W.contents writer.old) (W.contents writer.new)
         (answer_to (standing_of session.old) so_far.now.runs (command_left so_far.now.script)) }
+    ensures after { OnOk result (standing_of session.new
+        ≡ standing_behind (standing_of session.old) (command_left so_far.now.script)) }
+    ensures stands { OnErr result (MayBeBehind (standing_of session.old) (standing_of session.new) (command_left so_far.now.script)) }
     ensures read { OnErr result (result ≢ Err SessionError.Read) }
     ensures mismatch { IfErr result CarriesRefusal }
     ensures no_kit { result ≡ Err SessionError.NoKit → session.old.kits.kits ≡ [] }
+    ensures free { OnOk result (length session.new.kits.kits ≡ length session.old.kits.kits) }
     ensures output { result ≡ Err SessionError.Write → failures.new.output ≡ true }
     ensures unmarked { OnOk result (failures.new ≡ failures.old) }
     ensures input { failures.new.input ≡ failures.old.input }
@@ -247,6 +256,7 @@ fn answer_now<V: View, N: Notes, W: Write, T: Threads + Wait + Sync, G: Gate>(
         (answer_text (standing_of session.old) runs.old (said command.now)) }
     ensures after { OnOk result (standing_of session.new
         ≡ standing_after (standing_of session.old) (said command.now)) }
+    ensures stands { OnErr result (MayBeLeft (standing_of session.old) (standing_of session.new) (said command.now)) }
     ensures runs { OnOk result (runs.new ≡ runs_after runs.old (said command.now)) }
     ensures read { OnErr result (result ≢ Err SessionError.Read) }
     ensures mismatch { IfErr result CarriesRefusal }

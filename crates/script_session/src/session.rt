@@ -1,14 +1,15 @@
 // The answers to a session's script, from a reader to a writer.
 ghost use Rattle.std.specs.Prelude.{◌≡◌, ◌≢◌, ◌⊎◌, ◌+◌, ◌<◌, ◌≤◌, ◌^◌, [], true, Err, length, IfOk, IfErr, IfSome, OnOk, OnErr};
 ghost use Rattle.std.specs.Io.KnownBytes.{Appends, Keeps, IsAtEnd};
+ghost use Rattle.meaning.specs.Script.{commands as commands_of};
 ghost use Rattle.meaning.specs.Text.{edit_text, runs_after};
 ghost use Rattle.session_edits.specs.Said as edits;
 ghost use Rattle.script_reader.specs.Said.{said};
 ghost use Rattle.kept_session.specs.Sessions.{AreNewFor, standing_of};
 ghost use Rattle.kept_session.specs.Applied.{edited};
 ghost use Rattle.trace_report.specs.Outcomes.{Extends};
-ghost use Rattle.script_session.specs.Answers.{answer_text, left_by_edit, run_answer, standing_after};
-ghost use Rattle.script_session.specs.Sessions.{answers_of};
+ghost use Rattle.script_session.specs.Answers.{IsLeftByFirst, MayBeLeft, answer_text, left_by_edit, left_by_script, run_answer, standing_after};
+ghost use Rattle.script_session.specs.Sessions.{Leaves, LeavesByFirst, answers_of};
 ghost use Rattle.numbered_runs.specs.Come.{HasCome, HasEnded};
 ghost use Rattle.session_runs.specs.Runs.{IsFromScratch};
 ghost use Rattle.program_endings.specs.Endings.{CarriesRefusal, IsAnswerError, IsRunError, IsWriterError};
@@ -87,8 +88,9 @@ pub fn session_text<V: View, N: Notes, R: Read, W: Write, T: Threads + Wait + Sy
     answered
 }
 
-/// Does what `session_text` does in a session that is only lent: who owns it goes on with it, or ends it. The records of the script's
-/// last run, behind which none asks for them, aren't put into the session: they are left to the caller, in a tally.
+/// Does what `session_text` does in a session that is only lent: who owns it goes on with it, or ends it. Where all is answered the
+/// session is what the script's edits leave, with as many kits; where it ends early, what some first commands leave. The records of the script's last run, behind which none asks for them,
+/// aren't put into the session: they are left to the caller, in a tally.
 pub fn answer_whole<V: View, N: Notes, R: Read, W: Write, T: Threads + Wait + Sync, G: Gate>(
     runner: &Runner<'_, T, G>,
     session: &mut Session<V>,
@@ -101,6 +103,9 @@ pub fn answer_whole<V: View, N: Notes, R: Read, W: Write, T: Threads + Wait + Sy
     requires workers { (0 < runner.now.workers) × (runner.now.workers ≤ 16) }
     ensures answered { OnOk result (WritesAll (answers_of session.old)
         (R.remaining reader.old) (W.contents writer.old) (W.contents writer.new)) }
+    ensures after { OnOk result (Leaves (R.remaining reader.old) session.old session.new) }
+    ensures stands { OnErr result (LeavesByFirst (R.remaining reader.old) session.old session.new) }
+    ensures free { OnOk result (length session.new.kits.kits ≡ length session.old.kits.kits) }
     ensures over { OnOk result (IsAtEnd (R.remaining reader.new)) }
     ensures unread { result ≡ Err SessionError.Read
         → Keeps (W.contents writer.old) (W.contents writer.new) }
@@ -141,6 +146,9 @@ fn answer_script<V: View, N: Notes, W: Write, T: Threads + Wait + Sync, G: Gate>
     requires workers { (0 < runner.now.workers) × (runner.now.workers ≤ 16) }
     ensures written { OnOk result (Appends (W.contents writer.old) (W.contents writer.new)
         (answers_of session.old script.now)) }
+    ensures after { OnOk result (standing_of session.new ≡ left_by_script (standing_of session.old) script.now) }
+    ensures stands { OnErr result (IsLeftByFirst (standing_of session.old) (standing_of session.new) (commands_of script.now)) }
+    ensures free { OnOk result (length session.new.kits.kits ≡ length session.old.kits.kits) }
     ensures beginning { HasBeginning (W.contents writer.old) (W.contents writer.new)
         (answers_of session.old script.now) }
     ensures read { OnErr result (¬ (result ≡ Err SessionError.Read)) }
@@ -249,6 +257,7 @@ pub(crate) fn answer_written<V: View, N: Notes, W: Write, T: Threads + Wait + Sy
         (answer_text (standing_of session.old) runs (said command.now)) }
     ensures after { OnOk result (standing_of session.new
         ≡ standing_after (standing_of session.old) (said command.now)) }
+    ensures stands { OnErr result (MayBeLeft (standing_of session.old) (standing_of session.new) (said command.now)) }
     ensures runs { IfOk result (λ n. n.0 ≡ runs_after runs (said command.now)) }
     ensures news { IfOk result (λ n. IfSome n.1 (λ tally.
         AreNewFor session.new.checked session.new.tables tally.made)) }
@@ -285,6 +294,7 @@ fn answer<V: View, N: Notes, T: Threads + Wait + Sync, G: Gate>(
         (answer_text (standing_of session.old) runs (said command.now))) }
     ensures after { OnOk result (standing_of session.new
         ≡ standing_after (standing_of session.old) (said command.now)) }
+    ensures stands { OnErr result (MayBeLeft (standing_of session.old) (standing_of session.new) (said command.now)) }
     ensures runs { IfOk result (λ n. n.0 ≡ runs_after runs (said command.now)) }
     ensures news { IfOk result (λ n. IfSome n.1 (λ tally.
         AreNewFor session.new.checked session.new.tables tally.made)) }
@@ -329,6 +339,8 @@ fn change<V: View, N: Notes>(
         (edit_text (edited (standing_of session.old) (edits.said edit.now)))) }
     ensures after { OnOk result (standing_of session.new
         ≡ left_by_edit (standing_of session.old) (edits.said edit.now)) }
+    ensures stands { OnErr result ((standing_of session.new ≡ standing_of session.old)
+        ⊎ (standing_of session.new ≡ left_by_edit (standing_of session.old) (edits.said edit.now))) }
     ensures refused { IfErr result (λ e. e ≡ SessionError.NoMemory) }
     ensures kits { session.new.kits ≡ session.old.kits }
     ensures notes_stay { N.failed notes.new ≡ N.failed notes.old }

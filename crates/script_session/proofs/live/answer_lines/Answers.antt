@@ -1,8 +1,8 @@
 use Rattle.std.proofs.Common.{◌+◌, ◌≤◌, [], Err, ◌∙◌, ap, arith, refl}
 use Rattle.std.proofs.lemmas.Result.{err_from_is_err_and}
 use Rattle.program_endings.specs.declared.session_error.SessionError.TheVariants.{Read, NoKit, Notes}
-use Rattle.script_session.proofs.Coming.{Consumes-nothing, all_answered, begun, begun_line, begun_rest, first_line_read, next_line, no_byte, nothing_answered, read_failed, runs_behind-le, shown_ended, shown_last, shown_one, still_none}
-use Rattle.script_session.proofs.Errors.{also_ok, no_such_error, ok_is_none, on_ok, same_error}
+use Rattle.script_session.proofs.Coming.{Consumes-nothing, all_answered, all_left, begun, begun_line, begun_rest, first_line_read, left_by_lines, left_by_next, left_by_rest, next_line, no_byte, nothing_answered, read_failed, runs_behind-le, shown_ended, shown_last, shown_one, still_none}
+use Rattle.script_session.proofs.Errors.{also_ok, no_such_error, on_err, on_err_too, ok_is_none, on_ok, same_error}
 use Rattle.script_session.proofs.live.answer_lines.Goals as goal
 
 pub loop-init : goal.loop-init
@@ -26,7 +26,20 @@ returns-in_err-ended-clause-input_stays g c other =
     let p = err_from_is_err_and c.from_residual.result c.from_residual.ensures.1 in
     ap (λ f. f.input) (c.in_err-ended.ensures.unmarked (no_such_error c.from_residual.result c.in_err-ended.field-0.0 p.0 Read p.1 p.2 other _ refl) ∙ c.loop.invariant.unmarked)
 
+pub returns-in_err-ended-clause-stands : goal.returns-in_err-ended-clause-stands
+returns-in_err-ended-clause-stands g c =
+    let p = err_from_is_err_and c.from_residual.result c.from_residual.ensures.1 in
+    on_err c.from_residual.result _ p.0 p.1 (left_by_lines _ _ _ _ _ _ _ _ c.loop.invariant.answered _ refl)
+
 -- a line that can't be answered
+
+pub returns-in_err-answer_line-clause-stands : goal.returns-in_err-answer_line-clause-stands
+returns-in_err-answer_line-clause-stands g c =
+    let p = err_from_is_err_and c.from_residual-in_err-answer_line.result c.from_residual-in_err-answer_line.ensures.1 in
+    on_err c.from_residual-in_err-answer_line.result _ p.0 p.1
+    (left_by_next _ _ _ _ _ _ _ _ c.loop.invariant.answered _ _
+    (first_line_read c.in_ok-ended.ended _ _ _ _ c.as_slice.ensures.value c.in_ok-ended.ensures.one c.in_ok-ended.ensures.ended c.in_ok-ended.ensures.last c.in_ok-ended.ensures.over)
+    c.in_err-answer_line.ensures.stands)
 
 pub returns-in_err-answer_line-clause-beginning : goal.returns-in_err-answer_line-clause-beginning
 returns-in_err-answer_line-clause-beginning g c =
@@ -75,6 +88,30 @@ returns-then-not-ended-clause-answered g c =
     c.in_ok-answer_line.ensures.written c.in_ok-answer_line.ensures.after c.in_ok-answer_line.ensures.runs c.in_ok-answer_line.ensures.taken _)
     c.answer_rest.ensures.written
 
+pub returns-then-not-ended-clause-after : goal.returns-then-not-ended-clause-after
+returns-then-not-ended-clause-after g c =
+    on_ok c.answer_rest.result _ _
+    (all_left _ _ _ _ _ _ _ _ c.loop.invariant.answered _ _ _ _ _ _
+    (shown_one _ _ c.as_slice.ensures.value c.in_ok-ended.ensures.one) (shown_last _ _ _ _ c.as_slice.ensures.value (c.in_ok-ended.ensures.last c.if-not-ended.true))
+    (c.in_ok-ended.ensures.over c.if-not-ended.true)
+    c.in_ok-answer_line.ensures.written c.in_ok-answer_line.ensures.after c.in_ok-answer_line.ensures.runs c.in_ok-answer_line.ensures.taken _)
+    c.answer_rest.ensures.after
+
+pub returns-then-not-ended-clause-free : goal.returns-then-not-ended-clause-free
+returns-then-not-ended-clause-free g c =
+    on_ok c.answer_rest.result _ _
+    (λ e. e ∙ c.in_ok-answer_line.ensures.free ∙ c.loop.invariant.free)
+    c.answer_rest.ensures.free
+
+pub returns-then-not-ended-clause-stands : goal.returns-then-not-ended-clause-stands
+returns-then-not-ended-clause-stands g c =
+    on_err_too c.answer_rest.result _ _
+    (left_by_rest _ _ _ _ _ _ _ _ c.loop.invariant.answered _ _ _ _ _ _
+    (shown_one _ _ c.as_slice.ensures.value c.in_ok-ended.ensures.one) (shown_last _ _ _ _ c.as_slice.ensures.value (c.in_ok-ended.ensures.last c.if-not-ended.true))
+    (c.in_ok-ended.ensures.over c.if-not-ended.true)
+    c.in_ok-answer_line.ensures.written c.in_ok-answer_line.ensures.after c.in_ok-answer_line.ensures.runs c.in_ok-answer_line.ensures.taken _)
+    c.answer_rest.ensures.stands
+
 pub returns-then-not-ended-clause-over : goal.returns-then-not-ended-clause-over
 returns-then-not-ended-clause-over g c = also_ok c.answer_rest.result _ (c.in_ok-ended.ensures.over c.if-not-ended.true)
 
@@ -115,3 +152,6 @@ returns-clause-read g c is =
 
 pub returns-clause-beginning : goal.returns-clause-beginning
 returns-clause-beginning g c = begun _ _ _ _ _ _ _ _ c.loop.invariant.answered
+
+pub returns-clause-stands : goal.returns-clause-stands
+returns-clause-stands g c = left_by_lines _ _ _ _ _ _ _ _ c.loop.invariant.answered _ refl
