@@ -5,6 +5,7 @@ use Rattle.monoid_laws.specs.Kinds.{arity}
 use Rattle.meaning.specs.Tree.{Body, Proc, Tree}
 use Rattle.meaning.specs.declared.tree.Block.{Block}
 use Rattle.meaning.specs.declared.tree.Operator.{Operator}
+use Rattle.meaning.specs.declared.tree.Operator.TheVariants.{Add, Subtract, Multiply, Divide, Remainder}
 use Rattle.meaning.specs.TreeView.{statements}
 use Rattle.linked_program.specs.TableNames.{Columned}
 use Rattle.linked_program.specs.declared.code.Expression.{Expression}
@@ -12,6 +13,13 @@ use Rattle.linked_program.specs.declared.code.Expression.TheVariants as e
 use Rattle.linked_program.specs.declared.code.RowCells.{RowCells}
 use Rattle.linked_program.specs.declared.code.Operation.{Operation}
 use Rattle.linked_program.specs.declared.code.Operation.TheVariants as o
+use Rattle.linked_program.specs.declared.code.Target.{Target}
+use Rattle.linked_program.specs.declared.code.Target.TheVariants as target
+use Rattle.linked_program.specs.declared.code.Start.{Start}
+use Rattle.linked_program.specs.declared.code.Start.TheVariants as start
+use Rattle.linked_program.specs.declared.code.Link.{Link}
+use Rattle.linked_program.specs.declared.code.Link.TheVariants as link
+use Rattle.linked_program.specs.declared.code.Chain.{Chain}
 use Rattle.linked_program.specs.declared.code.ShortForm.{ShortForm}
 use Rattle.linked_program.specs.declared.code.ShortForm.TheVariants as short
 use Rattle.linked_program.specs.declared.code.Instruction.{Instruction}
@@ -65,6 +73,39 @@ code_block blocks (suc levels) n = acts_of (code_block blocks levels) (slice_get
 
 -- ---- short forms
 
+-- what a chain begins with
+abbrev pub beginning : Start → Linked
+beginning (start.Slot x) = slot x
+beginning (start.Cell t x c) = cell_at t (slot x) c
+beginning (start.OnRow op cells) = on_row op cells
+
+-- an operator more, on an expression and a slot or a number
+abbrev pub linked_by : Linked → Link → Linked
+linked_by e (link.Plus n) = joined Add e (constant n)
+linked_by e (link.Minus n) = joined Subtract e (constant n)
+linked_by e (link.Times n) = joined Multiply e (constant n)
+linked_by e (link.Over n) = joined Divide e (constant n)
+linked_by e (link.Modulo n) = joined Remainder e (constant n)
+linked_by e (link.NumberRight op n) = joined op e (constant n)
+linked_by e (link.NumberLeft op n) = joined op (constant n) e
+linked_by e (link.SlotRight op x) = joined op e (slot x)
+linked_by e (link.SlotLeft op x) = joined op (slot x) e
+
+-- so many operators more, the first of which is the innermost
+abbrev pub chained : Linked → List Link → Linked
+chained e [] = e
+chained e (k ∷ ks) = chained (linked_by e k) ks
+
+abbrev pub chain : Chain → Linked
+chain c = chained (beginning c.start) c.links.items
+
+-- what is done with a value, where `inner` is the plain block of a number
+abbrev pub act_for : (ℕ → Acts) → Linked → Target → Act
+act_for inner e (target.Slot x) = binds x e
+act_for inner e (target.Blocks b c) = chooses e (inner b) (inner c)
+act_for inner e target.Back = gives e
+act_for inner e (target.Update r) = updates r (e ∷ [])
+
 -- what a statement of that short form does, where `inner` is the plain block of a number
 abbrev pub act_by : (ℕ → Acts) → ShortForm → Option Act
 act_by inner short.Other = None
@@ -74,25 +115,22 @@ act_by inner (short.UpdateSlots r x y) = Some (updates r (slot x ∷ slot y ∷ 
 act_by inner (short.UpdateSlotAndNumber r x v) = Some (updates r (slot x ∷ constant v ∷ []))
 act_by inner (short.ReturnSlot x) = Some (gives (slot x))
 act_by inner (short.ReturnNumber v) = Some (gives (constant v))
-act_by inner (short.ReturnSlots op x y) = Some (gives (joined op (slot x) (slot y)))
-act_by inner (short.ReturnSlotAndNumber op x v) = Some (gives (joined op (slot x) (constant v)))
-act_by inner (short.ReturnNumberAndSlot op v x) = Some (gives (joined op (constant v) (slot x)))
-act_by inner (short.ReturnOnRow op cells) = Some (gives (on_row op cells))
-act_by inner (short.ReturnCell t x c) = Some (gives (cell_at t (slot x) c))
-act_by inner (short.BindSlots n op x y) = Some (binds n (joined op (slot x) (slot y)))
-act_by inner (short.BindSlotAndNumber n op x v) = Some (binds n (joined op (slot x) (constant v)))
-act_by inner (short.BindNumberAndSlot n op v x) = Some (binds n (joined op (constant v) (slot x)))
-act_by inner (short.BindOnRow n op cells) = Some (binds n (on_row op cells))
-act_by inner (short.BindCell n t x c) = Some (binds n (cell_at t (slot x) c))
-act_by inner (short.ChooseSlots op x y b c) = Some (chooses (joined op (slot x) (slot y)) (inner b) (inner c))
-act_by inner (short.ChooseSlotAndNumber op x v b c) = Some (chooses (joined op (slot x) (constant v)) (inner b) (inner c))
-act_by inner (short.ChooseNumberAndSlot op v x b c) = Some (chooses (joined op (constant v) (slot x)) (inner b) (inner c))
-act_by inner (short.ChooseOnRow op cells b c) = Some (chooses (on_row op cells) (inner b) (inner c))
+act_by inner (short.Slots t op x y) = Some (act_for inner (joined op (slot x) (slot y)) t)
+act_by inner (short.SlotAndNumber t op x v) = Some (act_for inner (joined op (slot x) (constant v)) t)
+act_by inner (short.NumberAndSlot t op v x) = Some (act_for inner (joined op (constant v) (slot x)) t)
+act_by inner (short.OnRow t op cells) = Some (act_for inner (on_row op cells) t)
+act_by inner (short.Cell t table x c) = Some (act_for inner (cell_at table (slot x) c) t)
+act_by inner (short.Chain t c) = Some (act_for inner (chain c) t)
 
 -- a reducer that there is takes so many numbers
 abbrev pub HasArity : ℕ → Option Kind → Type 0
 HasArity count None = ⊥
 HasArity count (Some kind) = count ≡ arity kind
+
+-- a reducer that is updated by a value takes one number
+abbrev pub TakesOne : List Kind → Target → Type 0
+TakesOne kinds (target.Update r) = HasArity 1 (slice_get kinds r)
+TakesOne kinds _ = Unit {0}
 
 -- the reducer of a short form takes as many numbers as it has
 abbrev pub HasCount : List Kind → ShortForm → Type 0
@@ -100,6 +138,12 @@ HasCount kinds (short.UpdateSlot r x) = HasArity 1 (slice_get kinds r)
 HasCount kinds (short.UpdateNumber r v) = HasArity 1 (slice_get kinds r)
 HasCount kinds (short.UpdateSlots r x y) = HasArity 2 (slice_get kinds r)
 HasCount kinds (short.UpdateSlotAndNumber r x v) = HasArity 2 (slice_get kinds r)
+HasCount kinds (short.Slots t op x y) = TakesOne kinds t
+HasCount kinds (short.SlotAndNumber t op x v) = TakesOne kinds t
+HasCount kinds (short.NumberAndSlot t op v x) = TakesOne kinds t
+HasCount kinds (short.OnRow t op cells) = TakesOne kinds t
+HasCount kinds (short.Cell t table x c) = TakesOne kinds t
+HasCount kinds (short.Chain t c) = TakesOne kinds t
 HasCount kinds _ = Unit {0}
 
 -- what a short form says of what is done

@@ -43,9 +43,49 @@ pub enum Operation {
     Return(Expression),
 }
 
-/// A short form of a statement that is done often, over slots, numbers and cells whose row stands in a slot: an update has as many
-/// numbers as its reducer takes, and a choice ends in its two blocks. Linking makes one wherever it can.
+/// What is done with a statement's value: it goes into a slot, one of two blocks is chosen by it, it is given back, or a reducer that takes
+/// one number is updated by it.
 #[derive(Clone, Copy)]
+pub enum Target {
+    Slot(usize),
+    Blocks(usize, usize),
+    Back,
+    Update(usize),
+}
+
+/// What a chain begins with: a slot, a cell whose row stands in a slot, or an operator on two cells of one row.
+#[derive(Clone, Copy)]
+pub enum Start {
+    Slot(usize),
+    Cell(usize, usize, usize),
+    OnRow(Operator, RowCells),
+}
+
+/// An operator on a value and a slot or a number, which stands to the right of the value or to its left. Of arithmetic with a number to the
+/// right, which is most of them, each operator has one by itself.
+#[derive(Clone, Copy)]
+pub enum Link {
+    Plus(i64),
+    Minus(i64),
+    Times(i64),
+    Over(i64),
+    Modulo(i64),
+    NumberRight(Operator, i64),
+    NumberLeft(Operator, i64),
+    SlotRight(Operator, usize),
+    SlotLeft(Operator, usize),
+}
+
+/// Operators within one another of which each has a slot or a number beside the others, from the innermost one on.
+#[derive(Drop)]
+pub struct Chain {
+    pub start: Start,
+    pub links: Vec<Link>,
+}
+
+/// A short form of a statement that is done often, over slots, numbers and cells whose row stands in a slot: an update has as many
+/// numbers as its reducer takes. Linking makes one wherever it can.
+#[derive(Drop)]
 pub enum ShortForm {
     Other,
     UpdateSlot(usize, usize),
@@ -54,20 +94,12 @@ pub enum ShortForm {
     UpdateSlotAndNumber(usize, usize, i64),
     ReturnSlot(usize),
     ReturnNumber(i64),
-    ReturnSlots(Operator, usize, usize),
-    ReturnSlotAndNumber(Operator, usize, i64),
-    ReturnNumberAndSlot(Operator, i64, usize),
-    ReturnOnRow(Operator, RowCells),
-    ReturnCell(usize, usize, usize),
-    BindSlots(usize, Operator, usize, usize),
-    BindSlotAndNumber(usize, Operator, usize, i64),
-    BindNumberAndSlot(usize, Operator, i64, usize),
-    BindOnRow(usize, Operator, RowCells),
-    BindCell(usize, usize, usize, usize),
-    ChooseSlots(Operator, usize, usize, usize, usize),
-    ChooseSlotAndNumber(Operator, usize, i64, usize, usize),
-    ChooseNumberAndSlot(Operator, i64, usize, usize, usize),
-    ChooseOnRow(Operator, RowCells, usize, usize),
+    Slots(Target, Operator, usize, usize),
+    SlotAndNumber(Target, Operator, usize, i64),
+    NumberAndSlot(Target, Operator, i64, usize),
+    OnRow(Target, Operator, RowCells),
+    Cell(Target, usize, usize, usize),
+    Chain(Target, Chain),
 }
 
 /// A statement, with its number in the procedure, and its short form.

@@ -9,7 +9,7 @@ ghost use Rattle.linked_program.specs.Procedures.{procedures};
 ghost use Rattle.linked_program.specs.Linked.{procedure_number as number_of_procedure, reducer_number as number_of_reducer};
 ghost use Rattle.linked_program.specs.Linked.{table_number as number_of_table, column_number as number_of_column, linked_term, linked_deed};
 ghost use Rattle.linked_program.specs.Linked.{linked_body, Acts, loops, kinds_of, constant, slot as slot_of, cell_at, joined as joined_by};
-ghost use Rattle.linked_program.specs.CodeView.{expression as plain, act, acts, IsCodeOf, AreBlocksOf, AreCodesOf, AreShort, AreShortBlocks};
+ghost use Rattle.linked_program.specs.CodeView.{expression as plain, act, acts, IsCodeOf, AreBlocksOf, AreCodesOf, AreShort, AreShortBlocks, HasShort};
 
 use crate::code::{Code, CodeBlock, Expression, Instruction, Operation, RowCells};
 use crate::hints::hints;
@@ -358,13 +358,30 @@ fn instructions(
     made.reserve(statements.len())?;
     for statement in statements {
         let operation = operation(alloc, declarations, tables, &statement.action)?;
-        made.push(Instruction {
-            number: statement.number,
-            short: short_form(kinds, &operation),
-            operation,
-        })?;
+        made.push(instruction(alloc, kinds, statement.number, operation)?)?;
     }
     Ok(made)
+}
+
+// The statement of that number, over reducers of these kinds.
+fn instruction(
+    alloc: Global,
+    kinds: &[Kind],
+    number: u32,
+    operation: Operation,
+) -> Result<Instruction, AllocError>
+    ensures number { IfOk result (λ made. made.number ≡ number) }
+    ensures operation { IfOk result (λ made. made.operation ≡ operation) }
+    ensures short { IfOk result (λ made. HasShort kinds.now made) }
+{
+    match short_form(alloc, kinds, &operation) {
+        Ok(short) => Ok(Instruction {
+            number,
+            short,
+            operation,
+        }),
+        Err(error) => Err(error),
+    }
 }
 
 fn code_blocks(

@@ -1,88 +1,68 @@
 //! Short forms of statements that are done often.
-ghost use Rattle.std.specs.Prelude.{◌≡◌, ℕ, [], ◌∷◌, List, true, false, map, slice_get};
+ghost use Rattle.std.specs.Prelude.{◌≡◌, ℕ, [], ◌∷◌, List, true, false, map, slice_get, IfOk, IfSome};
 ghost use Rattle.monoid_laws.specs.declared.Kind.{Kind as AnyKind};
 ghost use Rattle.monoid_laws.specs.Kinds.{arity as arity_of};
-ghost use Rattle.linked_program.specs.Linked.{slot as slot_of, Acts, binds, chooses, gives, updates};
-ghost use Rattle.linked_program.specs.CodeView.{expression as plain, act, IsFormOf, HasArity};
+ghost use Rattle.linked_program.specs.Linked.{constant, gives, joined as joined_by, slot as slot_of, Acts, Linked, updates};
+ghost use Rattle.linked_program.specs.CodeView.{expression as plain, act, act_for, beginning, chain as chain_of, linked_by, HasArity, IsFormOf, TakesOne};
 
-use crate::code::{Expression, Operation, ShortForm};
+use crate::code::{Chain, Expression, Link, Operation, ShortForm, Start, Target};
+use meaning::tree::Operator;
 use monoid_laws::Kind;
+use std::alloc::{AllocError, Global};
 
-/// The short form of what a statement does, where it has one.
-pub(crate) fn short_form(kinds: &[Kind], operation: &Operation) -> ShortForm
-    ensures form { (inner : ℕ → Acts) → IsFormOf kinds.now inner result (act inner operation.now) }
+/// The short form of what a statement does, where it has one. Want of memory is the only error.
+pub(crate) fn short_form(
+    alloc: Global,
+    kinds: &[Kind],
+    operation: &Operation,
+) -> Result<ShortForm, AllocError>
+    ensures form { IfOk result (λ made. (inner : ℕ → Acts) → IsFormOf kinds.now inner made (act inner operation.now)) }
 {
     match operation {
-        Operation::Bind(name, value) => bind_form(*name, value),
-        Operation::Update(reducer, values) => update_form(kinds, *reducer, values.as_slice()),
-        Operation::If(condition, first, second) => choice_form(condition, *first, *second),
-        Operation::Return(value) => return_form(value),
-        _ => ShortForm::Other,
+        Operation::Bind(name, value) => value_form(alloc, value, Target::Slot(*name)),
+        Operation::Update(reducer, values) => {
+            update_form(alloc, kinds, *reducer, values.as_slice())
+        }
+        Operation::If(condition, first, second) => {
+            value_form(alloc, condition, Target::Blocks(*first, *second))
+        }
+        Operation::Return(value) => return_form(alloc, value),
+        _ => Ok(ShortForm::Other),
     }
 }
 
-// That of a statement that puts a value into a slot.
-fn bind_form(name: usize, value: &Expression) -> ShortForm
-    ensures form { (kinds : List AnyKind) (inner : ℕ → Acts) → IsFormOf kinds inner result (binds name (plain value.now)) }
+// That of a statement that does something with a value.
+fn value_form(alloc: Global, value: &Expression, target: Target) -> Result<ShortForm, AllocError>
+    ensures form { IfOk result (λ made. (kinds : List AnyKind) (inner : ℕ → Acts) → TakesOne kinds target
+        → IsFormOf kinds inner made (act_for inner (plain value.now) target)) }
 {
     match value {
         Expression::Slots(operator, left, right) => {
-            ShortForm::BindSlots(name, *operator, *left, *right)
+            Ok(ShortForm::Slots(target, *operator, *left, *right))
         }
         Expression::SlotAndNumber(operator, left, right) => {
-            ShortForm::BindSlotAndNumber(name, *operator, *left, *right)
+            Ok(ShortForm::SlotAndNumber(target, *operator, *left, *right))
         }
         Expression::NumberAndSlot(operator, left, right) => {
-            ShortForm::BindNumberAndSlot(name, *operator, *left, *right)
+            Ok(ShortForm::NumberAndSlot(target, *operator, *left, *right))
         }
-        Expression::OnRow(operator, cells) => ShortForm::BindOnRow(name, *operator, *cells),
+        Expression::OnRow(operator, cells) => Ok(ShortForm::OnRow(target, *operator, *cells)),
         Expression::SlotCell(table, slot, column) => {
-            ShortForm::BindCell(name, *table, *slot, *column)
+            Ok(ShortForm::Cell(target, *table, *slot, *column))
         }
-        _ => ShortForm::Other,
-    }
-}
-
-// That of a choice between two blocks.
-fn choice_form(condition: &Expression, first: usize, second: usize) -> ShortForm
-    ensures form { (kinds : List AnyKind) (inner : ℕ → Acts) → IsFormOf kinds inner result (chooses (plain condition.now) (inner first) (inner second)) }
-{
-    match condition {
-        Expression::Slots(operator, left, right) => {
-            ShortForm::ChooseSlots(*operator, *left, *right, first, second)
-        }
-        Expression::SlotAndNumber(operator, left, right) => {
-            ShortForm::ChooseSlotAndNumber(*operator, *left, *right, first, second)
-        }
-        Expression::NumberAndSlot(operator, left, right) => {
-            ShortForm::ChooseNumberAndSlot(*operator, *left, *right, first, second)
-        }
-        Expression::OnRow(operator, cells) => {
-            ShortForm::ChooseOnRow(*operator, *cells, first, second)
-        }
-        _ => ShortForm::Other,
+        Expression::Binary(_, _, _) => chain_form(alloc, value, target),
+        _ => Ok(ShortForm::Other),
     }
 }
 
 // That of a statement that gives a value back.
-fn return_form(value: &Expression) -> ShortForm
-    ensures form { (kinds : List AnyKind) (inner : ℕ → Acts) → IsFormOf kinds inner result (gives (plain value.now)) }
+fn return_form(alloc: Global, value: &Expression) -> Result<ShortForm, AllocError>
+    ensures form { IfOk result (λ made. (kinds : List AnyKind) (inner : ℕ → Acts) → IsFormOf kinds inner made (gives (plain value.now))) }
 {
     match value {
-        Expression::Slot(slot) => ShortForm::ReturnSlot(*slot),
-        Expression::Number(number) => ShortForm::ReturnNumber(*number),
-        Expression::Slots(operator, left, right) => {
-            ShortForm::ReturnSlots(*operator, *left, *right)
-        }
-        Expression::SlotAndNumber(operator, left, right) => {
-            ShortForm::ReturnSlotAndNumber(*operator, *left, *right)
-        }
-        Expression::NumberAndSlot(operator, left, right) => {
-            ShortForm::ReturnNumberAndSlot(*operator, *left, *right)
-        }
-        Expression::OnRow(operator, cells) => ShortForm::ReturnOnRow(*operator, *cells),
-        Expression::SlotCell(table, slot, column) => ShortForm::ReturnCell(*table, *slot, *column),
-        _ => ShortForm::Other,
+        Expression::Slot(slot) => Ok(ShortForm::ReturnSlot(*slot)),
+        Expression::Number(number) => Ok(ShortForm::ReturnNumber(*number)),
+        _ => value_form(alloc, value, Target::Back),
     }
 }
 
@@ -98,33 +78,38 @@ fn takes_two(kind: &Kind) -> bool
 }
 
 // That of an update by so many values as the reducer takes.
-fn update_form(kinds: &[Kind], reducer: usize, values: &[Expression]) -> ShortForm
-    ensures form { (inner : ℕ → Acts) → IsFormOf kinds.now inner result (updates reducer (map plain values.now)) }
+fn update_form(
+    alloc: Global,
+    kinds: &[Kind],
+    reducer: usize,
+    values: &[Expression],
+) -> Result<ShortForm, AllocError>
+    ensures form { IfOk result (λ made. (inner : ℕ → Acts) → IsFormOf kinds.now inner made (updates reducer (map plain values.now))) }
 {
     match kinds.get(reducer) {
-        None => ShortForm::Other,
+        None => Ok(ShortForm::Other),
         Some(kind) => {
             let two = takes_two(kind);
             if values.len() == 1 && !two {
-                return one_form(reducer, &values[0]);
+                return one_form(alloc, reducer, &values[0]);
             }
             if values.len() == 2 && two {
-                return two_form(reducer, &values[0], &values[1]);
+                return Ok(two_form(reducer, &values[0], &values[1]));
             }
-            ShortForm::Other
+            Ok(ShortForm::Other)
         }
     }
 }
 
 // That of an update by one value.
-fn one_form(reducer: usize, value: &Expression) -> ShortForm
-    ensures form { (kinds : List AnyKind) (inner : ℕ → Acts) → HasArity 1 (slice_get kinds reducer)
-        → IsFormOf kinds inner result (updates reducer (plain value.now ∷ [])) }
+fn one_form(alloc: Global, reducer: usize, value: &Expression) -> Result<ShortForm, AllocError>
+    ensures form { IfOk result (λ made. (kinds : List AnyKind) (inner : ℕ → Acts) → HasArity 1 (slice_get kinds reducer)
+        → IsFormOf kinds inner made (updates reducer (plain value.now ∷ []))) }
 {
     match value {
-        Expression::Slot(slot) => ShortForm::UpdateSlot(reducer, *slot),
-        Expression::Number(number) => ShortForm::UpdateNumber(reducer, *number),
-        _ => ShortForm::Other,
+        Expression::Slot(slot) => Ok(ShortForm::UpdateSlot(reducer, *slot)),
+        Expression::Number(number) => Ok(ShortForm::UpdateNumber(reducer, *number)),
+        _ => value_form(alloc, value, Target::Update(reducer)),
     }
 }
 
@@ -148,5 +133,124 @@ fn beside_slot(reducer: usize, slot: usize, second: &Expression) -> ShortForm
         Expression::Slot(other) => ShortForm::UpdateSlots(reducer, slot, *other),
         Expression::Number(number) => ShortForm::UpdateSlotAndNumber(reducer, slot, *number),
         _ => ShortForm::Other,
+    }
+}
+
+// That of a statement that does something with an operator's value, where that is a chain.
+fn chain_form(alloc: Global, value: &Expression, target: Target) -> Result<ShortForm, AllocError>
+    ensures form { IfOk result (λ made. (kinds : List AnyKind) (inner : ℕ → Acts) → TakesOne kinds target
+        → IsFormOf kinds inner made (act_for inner (plain value.now) target)) }
+{
+    match chain(alloc, value)? {
+        Some(chain) => Ok(ShortForm::Chain(target, chain)),
+        None => Ok(ShortForm::Other),
+    }
+}
+
+// An expression as a chain, where it is one.
+#[cycle(chain)]
+fn chain(alloc: Global, expression: &Expression) -> Result<Option<Chain>, AllocError>
+    ensures chain { IfOk result (λ made. IfSome made (λ c. plain expression.now ≡ chain_of c)) }
+{
+    match expression {
+        Expression::Binary(operator, left, right) => match right_link(*operator, right) {
+            Some(link) => longer(chain(alloc, left), link),
+            None => match left_link(*operator, left) {
+                Some(link) => longer(chain(alloc, right), link),
+                None => Ok(None),
+            },
+        },
+        _ => begun(alloc, expression),
+    }
+}
+
+// The link that an operator and a slot or a number to its right make.
+fn right_link(operator: Operator, right: &Expression) -> Option<Link>
+    ensures link { IfSome result (λ k. (e : Linked) → linked_by e k ≡ joined_by operator e (plain right.now)) }
+{
+    match right {
+        Expression::Slot(slot) => Some(Link::SlotRight(operator, *slot)),
+        Expression::Number(number) => Some(number_link(operator, *number)),
+        _ => None,
+    }
+}
+
+// The link that an operator and a number to its right make.
+fn number_link(operator: Operator, number: i64) -> Link
+    ensures link { (e : Linked) → linked_by e result ≡ joined_by operator e (constant number) }
+{
+    match operator {
+        Operator::Add => Link::Plus(number),
+        Operator::Subtract => Link::Minus(number),
+        Operator::Multiply => Link::Times(number),
+        Operator::Divide => Link::Over(number),
+        Operator::Remainder => Link::Modulo(number),
+        _ => Link::NumberRight(operator, number),
+    }
+}
+
+// The link that an operator and a slot or a number to its left make.
+fn left_link(operator: Operator, left: &Expression) -> Option<Link>
+    ensures link { IfSome result (λ k. (e : Linked) → linked_by e k ≡ joined_by operator (plain left.now) e) }
+{
+    match left {
+        Expression::Slot(slot) => Some(Link::SlotLeft(operator, *slot)),
+        Expression::Number(number) => Some(Link::NumberLeft(operator, *number)),
+        _ => None,
+    }
+}
+
+// A chain with one link more, where there is a chain.
+fn longer(made: Result<Option<Chain>, AllocError>, link: Link) -> Result<Option<Chain>, AllocError>
+    ensures longer { (e : Linked) → IfOk made (λ before. IfSome before (λ c. e ≡ chain_of c))
+        → IfOk result (λ after. IfSome after (λ c. linked_by e link ≡ chain_of c)) }
+{
+    match made? {
+        Some(mut chain) => {
+            chain.links.push(link)?;
+            Ok(Some(chain))
+        }
+        None => Ok(None),
+    }
+}
+
+// An expression without operators within one another as a chain, where it is one.
+fn begun(alloc: Global, expression: &Expression) -> Result<Option<Chain>, AllocError>
+    ensures chain { IfOk result (λ made. IfSome made (λ c. plain expression.now ≡ chain_of c)) }
+{
+    match expression {
+        Expression::Slots(operator, left, right) => {
+            begun_with(alloc, *left, Link::SlotRight(*operator, *right))
+        }
+        Expression::SlotAndNumber(operator, left, right) => {
+            begun_with(alloc, *left, number_link(*operator, *right))
+        }
+        Expression::NumberAndSlot(operator, left, right) => {
+            begun_with(alloc, *right, Link::NumberLeft(*operator, *left))
+        }
+        Expression::SlotCell(table, slot, column) => {
+            Ok(Some(alone(alloc, Start::Cell(*table, *slot, *column))))
+        }
+        Expression::OnRow(operator, cells) => {
+            Ok(Some(alone(alloc, Start::OnRow(*operator, *cells))))
+        }
+        _ => Ok(None),
+    }
+}
+
+// A chain of one link on a slot.
+fn begun_with(alloc: Global, slot: usize, link: Link) -> Result<Option<Chain>, AllocError>
+    ensures chain { IfOk result (λ made. IfSome made (λ c. linked_by (slot_of slot) link ≡ chain_of c)) }
+{
+    longer(Ok(Some(alone(alloc, Start::Slot(slot)))), link)
+}
+
+// A chain without links.
+fn alone(alloc: Global, start: Start) -> Chain
+    ensures chain { beginning start ≡ chain_of result }
+{
+    Chain {
+        start,
+        links: Vec::new(alloc),
     }
 }

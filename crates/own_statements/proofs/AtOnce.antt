@@ -32,7 +32,7 @@ none_noted : (b : Bool) (xs : List Note) → kept_behind b xs [] ≡ xs
 none_noted true xs = append-nil xs
 none_noted false xs = refl
 
-noting_none : (l : PlainLayer) → noting [] l ≡ l
+pub noting_none : (l : PlainLayer) → noting [] l ≡ l
 noting_none l = ap (λ (xs : List Note). record l { notes = xs }) (none_noted l.keeps l.notes)
 
 not_kept : (b : Bool) (xs ys : List Note) → b ≡ false → xs ≡ kept_behind b xs ys

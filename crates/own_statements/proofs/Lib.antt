@@ -1,5 +1,6 @@
 pub mod AtOnce
 pub mod Beside
+pub mod Links
 pub mod Paths
 pub mod Placed
 pub mod Shorts

@@ -1,32 +1,36 @@
 -- What the short forms of statements say of their meaning.
-use Rattle.std.proofs.Common.{◌≡◌, ◌∙◌, ◌<◌, ℕ, zero, suc, ℤ, Bool, List, [], ◌∷◌, Some, None, length, map, slice_get, if◌then◌else◌, refl, sym, ap, subst, inl, inr, arith}
+use Rattle.std.proofs.Common.{◌≡◌, ◌∙◌, ◌<◌, ℕ, zero, suc, ℤ, Bool, List, [], ◌∷◌, Some, None, Result, Ok, Err, length, map, slice_get, if◌then◌else◌, refl, sym, ap, subst, inl, inr, arith}
 use Rattle.std.specs.Prelude.{Vec}
 use Rattle.std.specs.declared.alloc.Global.{Global}
+use Rattle.std.proofs.lemmas.List.{append-nil}
 use Rattle.monoid_laws.specs.declared.Kind.{Kind}
+use Rattle.meaning.specs.declared.FaultKind.{FaultKind}
 use Rattle.linked_program.specs.declared.code.Expression.{Expression}
 use Rattle.linked_program.specs.declared.code.Instruction.{Instruction}
 use Rattle.linked_program.specs.declared.code.Operation.{Operation}
 use Rattle.linked_program.specs.declared.code.Operation.TheVariants as o
+use Rattle.linked_program.specs.declared.code.Target.{Target}
+use Rattle.linked_program.specs.declared.code.Target.TheVariants as target
 use Rattle.linked_program.specs.Linked.{Linked, Acts, ends, steps, syncs, updates, binds, chooses, gives}
-use Rattle.linked_program.specs.CodeView.{expression, act, HasArity, instruction_at}
+use Rattle.linked_program.specs.CodeView.{expression, act, act_for, HasArity, instruction_at}
 use Rattle.evaluation.specs.declared.slot.Slot.TheVariants.{Has}
-use Rattle.evaluation.specs.Values.{NumberedOut, value_at, values_at}
+use Rattle.evaluation.specs.declared.note.Note.{Note}
+use Rattle.evaluation.specs.Values.{NumberedOut, mapped, onward, pure, value_at, values_at}
 use Rattle.positions.specs.declared.phase.Phase.TheVariants.{Running, Returning}
 use Rattle.positions.specs.declared.work.Position.{Position}
 use Rattle.positions.specs.declared.work.Work.TheVariants.{Block}
 use Rattle.positions.specs.Code.{instruction_inside}
 use Rattle.positions.specs.Setting.{Setting}
 use Rattle.positions.specs.Activations.{PlainActivation, at, next_of, bound}
-use Rattle.positions.specs.Layers.{PlainLayer}
+use Rattle.positions.specs.Layers.{PlainLayer, noting}
 use Rattle.positions.specs.Advance.{evaluated, answered, noted, binding, choosing, combining, giving, moved_on, performed}
 use Rattle.positions.specs.Strands.{PlainStrand, is_entry}
 use Rattle.own_statements.specs.declared.statements.Did.{Did}
 use Rattle.own_statements.specs.declared.statements.Did.TheVariants.{Nothing, Next, Moved, Gave}
-use Rattle.own_statements.specs.declared.short_forms.Target.{Target}
-use Rattle.own_statements.specs.declared.short_forms.Target.TheVariants as target
-use Rattle.own_statements.specs.Effects.{Comes, act_for, goes_on}
+use Rattle.own_statements.specs.Effects.{Comes, combining_one, goes_on}
 use Rattle.own_statements.specs.Fills.{Fills}
 use Rattle.own_statements.specs.Paths.{ComesTo, Does, topped}
+use Rattle.own_statements.proofs.AtOnce.{noting_none}
 use Rattle.own_statements.proofs.Paths.{does_as, come_next, come_passed}
 use Rattle.own_statements.proofs.Updates.{does_update}
 
@@ -106,6 +110,16 @@ module _ (S : Setting) (passes : Bool) (p : Position) (f : Bool → PlainStrand 
   comes_as g Moved b m e h = λ s may kit. h s may kit ∙ e kit s
   comes_as g (Gave v) b m e h = λ s may kit. h s may kit ∙ e kit s
 
+-- the values of one expression alone
+by_answer : (n : ℕ) (ns : List Note) (r : Result ℤ FaultKind) (f : List ℤ → PlainStrand → PlainStrand) (s : PlainStrand)
+    → evaluated n (onward ns r (λ v. mapped (λ vs. v ∷ vs) (pure []))) f s ≡ answered n r (λ v. f (v ∷ [])) (noted ns s)
+by_answer n ns (Ok v) f s = ap (λ (ms : List Note). f (v ∷ []) (noted ms s)) (append-nil ns)
+by_answer n ns (Err k) f s = refl
+
+one_of_values : (n : ℕ) (o : NumberedOut ℤ) (f : List ℤ → PlainStrand → PlainStrand) (s : PlainStrand)
+    → evaluated n (onward o.notes o.answer (λ v. mapped (λ vs. v ∷ vs) (pure []))) f s ≡ evaluated n o (λ v. f (v ∷ [])) s
+one_of_values n o f s = by_answer n o.notes o.answer f s
+
 module _ (S : Setting) (passes : Bool) (p : Position) (n : ℕ) (a : PlainActivation) (l : PlainLayer) (did : Did) (b : PlainActivation) (m : PlainLayer) (op : Operation) where
   pub short_update : (r : ℕ) (es : List Linked) → act numbered op ≡ updates r es
       → Does passes p (λ kit. evaluated n (values_at S.tables a.slots es) (combining (slice_get S.kinds r) n p r)) a l did b m
@@ -116,7 +130,7 @@ module _ (S : Setting) (passes : Bool) (p : Position) (n : ℕ) (a : PlainActiva
       (subst (λ (ys : List Linked). Does passes p (λ kit. evaluated n (values_at S.tables a.slots ys) (combining (slice_get S.kinds r) n p r)) a l did b m) found.2 h)
 
   pub short_value : (t : Target) (e : Linked) → act numbered op ≡ act_for numbered e t
-      → Comes S passes p (λ kit. evaluated n (value_at S.tables a.slots e) (goes_on p t)) a l did b m
+      → Comes S passes p (λ kit. evaluated n (value_at S.tables a.slots e) (goes_on S.kinds n p t)) a l did b m
       → Comes S passes p (λ kit. performed S kit p n op) a l did b m
   short_value (target.Slot x) e is h =
       let found = is_bind op x e is in
@@ -133,6 +147,13 @@ module _ (S : Setting) (passes : Bool) (p : Position) (n : ℕ) (a : PlainActiva
       subst (λ (q : Operation). Comes S passes p (λ kit. performed S kit p n q) a l did b m) (sym found.1)
       (comes_as S passes p (λ (kit : Bool). evaluated n (value_at S.tables a.slots (expression found.0)) giving) a l (λ kit. performed S kit p n (o.Return found.0)) did b m (λ kit s. refl)
       (subst (λ (z : Linked). Comes S passes p (λ kit. evaluated n (value_at S.tables a.slots z) giving) a l did b m) found.2 h))
+  short_value (target.Update r) e is h =
+      let found = is_update op r (e ∷ []) is in
+      subst (λ (q : Operation). Comes S passes p (λ kit. performed S kit p n q) a l did b m) (sym found.1)
+      (comes_as S passes p (λ (kit : Bool). evaluated n (value_at S.tables a.slots e) (combining_one (slice_get S.kinds r) n p r)) a l (λ kit. performed S kit p n (o.Update r found.0)) did b m
+      (λ kit s. sym (one_of_values n (value_at S.tables a.slots e) (combining (slice_get S.kinds r) n p r) (topped Running (at (Block p) a) l s))
+      ∙ ap (λ (es : List Linked). evaluated n (values_at S.tables a.slots es) (combining (slice_get S.kinds r) n p r) (topped Running (at (Block p) a) l s)) found.2)
+      h)
 
   pub short_sync : act numbered op ≡ syncs
       → Does passes p (λ kit s. if is_entry s then s else moved_on p s) a l did b m
@@ -167,3 +188,17 @@ module _ (passes : Bool) (p : Position) (n : ℕ) (a : PlainActivation) (l : Pla
   gives_found s may kit =
       ap (λ (k : PlainLayer). topped (Returning v) (at (Block p) a) k s) found.1
       ∙ sym (ap (λ r. answered n r giving (noted o.notes (topped Running (at (Block p) a) l s))) found.0)
+
+  -- an update by that value is an update by a number that reads nothing
+  as_number : (f : List ℤ → PlainStrand → PlainStrand) (s : PlainStrand)
+      → evaluated n (pure (v ∷ [])) f (topped Running (at (Block p) a) l s) ≡ evaluated n o (λ w. f (w ∷ [])) (topped Running (at (Block p) a) l s)
+  as_number f s =
+      ap (λ (k : PlainLayer). f (v ∷ []) (topped Running (at (Block p) a) k s)) (noting_none l ∙ found.1)
+      ∙ sym (ap (λ r. answered n r (λ w. f (w ∷ [])) (noted o.notes (topped Running (at (Block p) a) l s))) found.0)
+
+  pub updates_found : (f : List ℤ → PlainStrand → PlainStrand) (did : Did) (b : PlainActivation) (m : PlainLayer)
+      → Does passes p (λ kit. evaluated n (pure (v ∷ [])) f) a l did b m → Does passes p (λ kit. evaluated n o (λ w. f (w ∷ []))) a l did b m
+  updates_found f Nothing b m h = h
+  updates_found f Next b m h = λ s may kit. h s may kit ∙ as_number f s
+  updates_found f Moved b m h = λ s may kit. h s may kit ∙ as_number f s
+  updates_found f (Gave x) b m h = λ s may kit. h s may kit ∙ as_number f s

@@ -2,6 +2,7 @@
 //! become records at once; and calls of the own procedure.
 #![tactic(auto)]
 
+mod chains;
 mod combining;
 pub mod filling;
 mod found;

@@ -6,44 +6,39 @@ ghost use Rattle.linked_program.specs.CodeView.{IsFormOf, act as act_of, on_row 
 ghost use Rattle.linked_program.specs.Linked.{Act, Acts, cell_at, constant, joined as joined_by, slot as slot_of};
 ghost use Rattle.evaluation.specs.declared.slot.Slot.{Slot as AnySlot};
 ghost use Rattle.positions.specs.Layers.{PlainLayer};
-ghost use Rattle.own_statements.specs.Effects.{Finds, HasValue, IsEffect, act_for};
+ghost use Rattle.own_statements.specs.Effects.{Finds, HasValue, IsEffect};
 
+use crate::chains::chain_at_once;
 use crate::found::{cell_at_once, given_at_once, two_at_once};
 use evaluation::slot::Slot;
 use evaluation::values::{joined, number_in};
 use input_tables::Tables;
 use layers::layer::Layer;
-use linked_program::code::{Expression, Instruction, Operation, RowCells, ShortForm};
+use linked_program::code::{
+    Chain, Expression, Instruction, Operation, RowCells, ShortForm, Target,
+};
 use meaning::tree::Operator;
 use view_pool::View;
 
-/// What is done with a statement's value: it goes into a slot, one of two blocks is chosen by it, or it is given back.
-#[derive(Clone, Copy)]
-pub enum Target {
-    Slot(usize),
-    Blocks(usize, usize),
-    Back,
-}
-
-/// A statement's value: it isn't found at once; it is that number; an operator makes it of two; or it is that of an expression. The
-/// operator stands last: beside the tag it would be put into one word with that, and each step taken apart again.
+/// A statement's value: it isn't found at once; it is that number; an operator makes it of two; or it is that of a chain, or of an
+/// expression. The operator stands last: beside the tag it would be put into one word with that, and each step taken apart again.
 #[derive(Clone, Copy)]
 pub enum Value<'a> {
     Later,
     Found(i64),
     Joined(i64, i64, Operator),
+    Chained(&'a Chain),
     Of(&'a Expression),
 }
 
-/// What a statement comes to: it is none that an instance does by itself; it is a sync; it updates a reducer by one number, by two, or by
-/// the values of expressions; or something is done with a value.
+/// What a statement comes to: it is none that an instance does by itself; it is a sync; it is done with all that it reads; it updates a
+/// reducer by two numbers; or something is done with a value.
 #[derive(Clone, Copy)]
 pub enum Effect<'a> {
     Other,
     Sync,
-    One(usize, i64),
+    Later,
     Two(usize, i64, i64),
-    Many(usize, &'a [Expression]),
     Value(Value<'a>, Target),
 }
 
@@ -61,8 +56,12 @@ pub(crate) fn effect_of<'a, V: View>(
 {
     match &instruction.short {
         ShortForm::Other => effect_of_operation(&instruction.operation),
-        ShortForm::UpdateSlot(reducer, slot) => Effect::One(*reducer, number_in(slots, *slot)),
-        ShortForm::UpdateNumber(reducer, number) => Effect::One(*reducer, *number),
+        ShortForm::UpdateSlot(reducer, slot) => {
+            Effect::Value(of_slot(*slot, slots), Target::Update(*reducer))
+        }
+        ShortForm::UpdateNumber(reducer, number) => {
+            Effect::Value(Value::Found(*number), Target::Update(*reducer))
+        }
         ShortForm::UpdateSlots(reducer, first, second) => {
             let second = number_in(slots, *second);
             Effect::Two(*reducer, number_in(slots, *first), second)
@@ -72,28 +71,17 @@ pub(crate) fn effect_of<'a, V: View>(
         }
         ShortForm::ReturnSlot(slot) => Effect::Value(of_slot(*slot, slots), Target::Back),
         ShortForm::ReturnNumber(number) => Effect::Value(Value::Found(*number), Target::Back),
-        ShortForm::ReturnSlots(operator, left, right) => {
-            Effect::Value(on_slots(*operator, *left, *right, slots), Target::Back)
+        ShortForm::Slots(target, operator, left, right) => {
+            Effect::Value(on_slots(*operator, *left, *right, slots), *target)
         }
-        ShortForm::ReturnSlotAndNumber(operator, left, right) => {
-            Effect::Value(on_left(*operator, *left, *right, slots), Target::Back)
+        ShortForm::SlotAndNumber(target, operator, left, right) => {
+            Effect::Value(on_left(*operator, *left, *right, slots), *target)
         }
-        ShortForm::ReturnNumberAndSlot(operator, left, right) => {
-            Effect::Value(on_right(*operator, *left, *right, slots), Target::Back)
+        ShortForm::NumberAndSlot(target, operator, left, right) => {
+            Effect::Value(on_right(*operator, *left, *right, slots), *target)
         }
-        ShortForm::BindSlots(name, operator, left, right) => {
-            let value = on_slots(*operator, *left, *right, slots);
-            Effect::Value(value, Target::Slot(*name))
-        }
-        ShortForm::BindSlotAndNumber(name, operator, left, right) => {
-            let value = on_left(*operator, *left, *right, slots);
-            Effect::Value(value, Target::Slot(*name))
-        }
-        ShortForm::BindNumberAndSlot(name, operator, left, right) => {
-            let value = on_right(*operator, *left, *right, slots);
-            Effect::Value(value, Target::Slot(*name))
-        }
-        _ => effect_of_choice(layer, &instruction.short, slots, tables),
+        ShortForm::Chain(target, chain) => Effect::Value(Value::Chained(chain), *target),
+        _ => effect_on_row(layer, &instruction.short, slots, tables),
     }
 }
 
@@ -105,7 +93,7 @@ fn effect_of_operation<'a>(operation: &'a Operation) -> Effect<'a>
 {
     match operation {
         Operation::Bind(name, value) => Effect::Value(Value::Of(value), Target::Slot(*name)),
-        Operation::Update(reducer, values) => Effect::Many(*reducer, values.as_slice()),
+        Operation::Update(_, _) => Effect::Later,
         Operation::If(condition, first, second) => {
             Effect::Value(Value::Of(condition), Target::Blocks(*first, *second))
         }
@@ -115,36 +103,7 @@ fn effect_of_operation<'a>(operation: &'a Operation) -> Effect<'a>
     }
 }
 
-/// What one comes to whose short form chooses a block by an operator's value on slots and numbers.
-#[inline(always)]
-fn effect_of_choice<'a, V: View>(
-    layer: &Layer<V>,
-    short: &'a ShortForm,
-    slots: &[Slot],
-    tables: &Tables,
-) -> Effect<'a>
-    ensures effect { (kinds : List Kind) (inner : ℕ → Acts) (act : Act) → IsFormOf kinds inner short.now act
-        → IsEffect kinds inner tables.now.tables slots.now layer.now act result }
-{
-    match short {
-        ShortForm::ChooseSlots(operator, left, right, first, second) => {
-            let value = on_slots(*operator, *left, *right, slots);
-            Effect::Value(value, Target::Blocks(*first, *second))
-        }
-        ShortForm::ChooseSlotAndNumber(operator, left, right, first, second) => {
-            let value = on_left(*operator, *left, *right, slots);
-            Effect::Value(value, Target::Blocks(*first, *second))
-        }
-        ShortForm::ChooseNumberAndSlot(operator, left, right, first, second) => {
-            let value = on_right(*operator, *left, *right, slots);
-            Effect::Value(value, Target::Blocks(*first, *second))
-        }
-        _ => effect_on_row(layer, short, slots, tables),
-    }
-}
-
-/// What one comes to whose short form has a value on a slot's row. Each of the two ways to such a value stands once, for whatever is done
-/// with it.
+/// What one comes to whose short form has a value on a slot's row.
 #[inline(always)]
 fn effect_on_row<'a, V: View>(
     layer: &Layer<V>,
@@ -155,52 +114,15 @@ fn effect_on_row<'a, V: View>(
     ensures effect { (kinds : List Kind) (inner : ℕ → Acts) (act : Act) → IsFormOf kinds inner short.now act
         → IsEffect kinds inner tables.now.tables slots.now layer.now act result }
 {
-    match cells_of(short) {
-        Some((operator, cells, target)) => {
-            Effect::Value(on_row(layer, operator, cells, slots, tables), target)
-        }
-        None => match cell_of(short) {
-            Some((table, slot, column, target)) => {
-                let value = of_cell(layer, table, slot, column, slots, tables);
-                Effect::Value(value, target)
-            }
-            None => Effect::Other,
-        },
-    }
-}
-
-/// The operator, the two cells of one row and what is done with the value, where a short form has these.
-#[inline(always)]
-fn cells_of<'a>(short: &'a ShortForm) -> Option<(Operator, &'a RowCells, Target)>
-    ensures cells { IfSome result (λ found. (kinds : List Kind) (inner : ℕ → Acts) (act : Act) → IsFormOf kinds inner short.now act
-        → act ≡ act_for inner (row_of found.0 found.1.now) found.2) }
-{
     match short {
-        ShortForm::ReturnOnRow(operator, cells) => Some((*operator, cells, Target::Back)),
-        ShortForm::BindOnRow(name, operator, cells) => {
-            Some((*operator, cells, Target::Slot(*name)))
+        ShortForm::OnRow(target, operator, cells) => {
+            Effect::Value(on_row(layer, *operator, cells, slots, tables), *target)
         }
-        ShortForm::ChooseOnRow(operator, cells, first, second) => {
-            Some((*operator, cells, Target::Blocks(*first, *second)))
+        ShortForm::Cell(target, table, slot, column) => {
+            let value = of_cell(layer, *table, *slot, *column, slots, tables);
+            Effect::Value(value, *target)
         }
-        _ => None,
-    }
-}
-
-/// The table, the slot of the row, the column and what is done with the value, where a short form has one cell.
-#[inline(always)]
-fn cell_of(short: &ShortForm) -> Option<(usize, usize, usize, Target)>
-    ensures cell { IfSome result (λ found. (kinds : List Kind) (inner : ℕ → Acts) (act : Act) → IsFormOf kinds inner short.now act
-        → act ≡ act_for inner (cell_at found.0 (slot_of found.1) found.2) found.3) }
-{
-    match short {
-        ShortForm::ReturnCell(table, slot, column) => {
-            Some((*table, *slot, *column, Target::Back))
-        }
-        ShortForm::BindCell(name, table, slot, column) => {
-            Some((*table, *slot, *column, Target::Slot(*name)))
-        }
-        _ => None,
+        _ => Effect::Other,
     }
 }
 
@@ -292,6 +214,7 @@ pub(crate) fn value_of<V: View>(
         Value::Later => None,
         Value::Found(number) => Some(number),
         Value::Joined(left, right, operator) => joined(operator, left, right),
+        Value::Chained(chain) => chain_at_once(layer, chain, slots, tables),
         Value::Of(expression) => given_at_once(layer, expression, slots, tables),
     }
 }

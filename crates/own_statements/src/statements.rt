@@ -1,6 +1,6 @@
 //! The statements that an instance does by itself: they enter no other instance.
 ghost use Rattle.std.specs.Prelude.{◌≡◌, ◌+◌, ◌<◌, ◌^◌, ◌∷◌, [], ℕ, ℤ, Bool, List, None, true, false, length, map, slice_get, if◌then◌else◌};
-ghost use Rattle.linked_program.specs.CodeView.{HasArity, HasShort, expression as plain, instruction_at};
+ghost use Rattle.linked_program.specs.CodeView.{HasArity, HasShort, TakesOne, expression as plain, instruction_at};
 ghost use Rattle.evaluation.specs.Values.{NumberedOut, pure, value_at, values_at};
 ghost use Rattle.positions.specs.Activations.{PlainActivation};
 ghost use Rattle.positions.specs.Layers.{PlainLayer};
@@ -8,19 +8,19 @@ ghost use Rattle.positions.specs.Strands.{is_entry};
 ghost use Rattle.positions.specs.Advance.{evaluated, binding, choosing, combining, giving, moved_on, performed};
 ghost use Rattle.activations.specs.Given.{lent};
 ghost use Rattle.own_statements.specs.declared.statements.Did.TheVariants.{Next, Nothing};
-ghost use Rattle.own_statements.specs.Effects.{Comes, goes_on};
+ghost use Rattle.own_statements.specs.Effects.{Comes, combining_one, goes_on};
 ghost use Rattle.own_statements.specs.Fills.{Fills};
 ghost use Rattle.own_statements.specs.Paths.{Chooses, Does, OnNext, OnPassed, IsInBlock};
 
 use crate::combining::combine_some;
-use crate::short_forms::{Effect, Target, effect_of, value_of};
+use crate::short_forms::{Effect, effect_of, value_of};
 use activations::activation::Activation;
 use activations::setting::Setting;
 use evaluation::slot::Slot;
 use input_tables::Tables;
 use layers::layer::Layer;
 use linked_program::checked::Checked;
-use linked_program::code::{Expression, Instruction, Operation};
+use linked_program::code::{Expression, Instruction, Operation, Target};
 use positions::work::Position;
 use view_pool::View;
 
@@ -79,17 +79,14 @@ pub(crate) fn perform<V: View>(
     match effect_of(layer, instruction, top.slots(), setting.tables) {
         Effect::Other => Did::Nothing,
         Effect::Sync => pass_sync(layer, passes_syncs, position, top),
-        Effect::One(reducer, number) => update_one(layer, setting, here, reducer, number),
+        Effect::Later => evaluate(layer, setting, here, &instruction.operation, top, numbers),
         Effect::Two(reducer, first, second) => {
             update_two(layer, setting, here, reducer, first, second)
         }
-        Effect::Many(reducer, values) => {
-            update_by_all(layer, setting, here, reducer, values, top, numbers)
-        }
         Effect::Value(value, target) => {
             match value_of(layer, value, top.slots(), setting.tables) {
-                Some(value) => put(setting, here, value, target, top),
-                None => evaluate(layer, setting, here, &instruction.operation, top),
+                Some(value) => put(layer, setting, here, value, target, top),
+                None => evaluate(layer, setting, here, &instruction.operation, top, numbers),
             }
         }
     }
@@ -116,8 +113,8 @@ fn pass_sync<V: View>(
     }
 }
 
-/// Updates a reducer by one number. Whether that was done is told apart by itself, so that what comes of it
-/// is known where the loop over statements asks.
+/// Updates a reducer by one number, which was found with nothing to note. Whether that was done is told apart by itself, so that what comes
+/// of it is known where the loop over statements asks.
 #[inline(always)]
 fn update_one<V: View>(
     layer: &mut Layer<V>,
@@ -128,9 +125,9 @@ fn update_one<V: View>(
 ) -> Did
     requires takes { HasArity 1 (slice_get setting.program.now.kinds reducer) }
     requires kinds { layer.old.kinds ≡ setting.program.now.kinds }
-    ensures done { (a : PlainActivation) (o : NumberedOut (List ℤ)) → o ≡ pure (number ∷ [])
+    ensures done { (a : PlainActivation) (o : NumberedOut ℤ) → Fills o number layer.old layer.old
         → Does here.passes_syncs here.position (λ kit. evaluated here.statement o
-        (combining (slice_get setting.entry.program.now.kinds reducer) here.statement here.position reducer))
+        (combining_one (slice_get setting.entry.program.now.kinds reducer) here.statement here.position reducer))
         a layer.old result a layer.new }
     ensures kinds { layer.new.kinds ≡ layer.old.kinds }
 {
@@ -152,9 +149,9 @@ fn updates_one<V: View>(
 ) -> bool
     requires takes { HasArity 1 (slice_get setting.program.now.kinds reducer) }
     requires kinds { layer.old.kinds ≡ setting.program.now.kinds }
-    ensures done { (a : PlainActivation) (o : NumberedOut (List ℤ)) → o ≡ pure (number ∷ [])
+    ensures done { (a : PlainActivation) (o : NumberedOut ℤ) → Fills o number layer.old layer.old
         → Does here.passes_syncs here.position (λ kit. evaluated here.statement o
-        (combining (slice_get setting.entry.program.now.kinds reducer) here.statement here.position reducer))
+        (combining_one (slice_get setting.entry.program.now.kinds reducer) here.statement here.position reducer))
         a layer.old (if result then Next else Nothing) a layer.new }
     ensures kinds { layer.new.kinds ≡ layer.old.kinds }
 {
@@ -248,11 +245,6 @@ fn update_by_all<V: View>(
     ensures same_block { OnNext result (IsInBlock top.old top.new) }
     ensures kinds { layer.new.kinds ≡ layer.old.kinds }
 {
-    let here = Here {
-        statement: here.statement,
-        position: here.position,
-        passes_syncs: here.passes_syncs,
-    };
     if combine_some(layer, setting, here, reducer, values, top, numbers) {
         Did::Next
     } else {
@@ -261,13 +253,24 @@ fn update_by_all<V: View>(
 }
 
 /// Does what is to be done with a statement's value that was found with nothing to note: it goes into a slot, one of two blocks is chosen
-/// by it, or it is given back. A second block in which there is nothing is passed by.
+/// by it, it is given back, or a reducer is updated by it. A second block in which there is nothing is passed by.
 #[inline(always)]
-fn put(setting: Setting<'_>, here: Here, value: i64, target: Target, top: &mut Activation) -> Did
+fn put<V: View>(
+    layer: &mut Layer<V>,
+    setting: Setting<'_>,
+    here: Here,
+    value: i64,
+    target: Target,
+    top: &mut Activation,
+) -> Did
     requires room { here.position.index + 1 < 2 ^ 64 }
-    ensures done { (l : PlainLayer) (o : NumberedOut ℤ) → Fills o value l l → Comes (lent setting.entry) here.passes_syncs here.position
-        (λ kit. evaluated here.statement o (goes_on here.position target)) top.old l result top.new l }
+    requires takes { TakesOne setting.program.now.kinds target }
+    requires kinds { layer.old.kinds ≡ setting.program.now.kinds }
+    ensures done { (o : NumberedOut ℤ) → Fills o value layer.old layer.old → Comes (lent setting.entry) here.passes_syncs here.position
+        (λ kit. evaluated here.statement o (goes_on setting.entry.program.now.kinds here.statement here.position target))
+        top.old layer.old result top.new layer.new }
     ensures same_block { OnNext result (IsInBlock top.old top.new) }
+    ensures kinds { layer.new.kinds ≡ layer.old.kinds }
 {
     match target {
         Target::Slot(name) => {
@@ -276,6 +279,7 @@ fn put(setting: Setting<'_>, here: Here, value: i64, target: Target, top: &mut A
         }
         Target::Blocks(first, second) => choose_by(setting, here, value, first, second, top),
         Target::Back => Did::Gave(value),
+        Target::Update(reducer) => update_one(layer, setting, here, reducer, value),
     }
 }
 
@@ -335,7 +339,7 @@ fn is_empty(program: &Checked, procedure: usize, block: usize) -> bool
     program.instruction(procedure, block, 0).is_none()
 }
 
-/// A statement whose value isn't found at once. Where it stands is handed on in memory, so it is put there here, and not for each statement.
+/// A statement that isn't done at once. Where it stands is handed on in memory, so it is put there here, and not for each statement.
 #[inline(always)]
 fn evaluate<V: View>(
     layer: &mut Layer<V>,
@@ -343,8 +347,10 @@ fn evaluate<V: View>(
     here: Here,
     operation: &Operation,
     top: &mut Activation,
+    numbers: &mut Vec<i64>,
 ) -> Did
     requires room { here.position.index + 1 < 2 ^ 64 }
+    requires kinds { layer.old.kinds ≡ setting.program.now.kinds }
     ensures done { Does here.passes_syncs here.position (λ kit. performed
         (lent setting.entry) kit here.position here.statement operation.now) top.old layer.old result top.new layer.new }
     ensures same_block { OnNext result (IsInBlock top.old top.new) }
@@ -356,7 +362,7 @@ fn evaluate<V: View>(
         passes_syncs: here.passes_syncs,
     };
     // (each outcome is named anew: else the loop over statements would ask again what came of those that were done at once)
-    match evaluate_apart(layer, setting, here, operation, top) {
+    match evaluate_apart(layer, setting, here, operation, top, numbers) {
         Did::Next => Did::Next,
         Did::Moved => Did::Moved,
         Did::Gave(value) => Did::Gave(value),
@@ -364,7 +370,7 @@ fn evaluate<V: View>(
     }
 }
 
-/// The same: its value is found with all that is read for it, and that is noted where the layer keeps
+/// The same: its values are found with all that is read for them, and that is noted where the layer keeps
 /// readings. Where it has none, or memory is refused, nothing has changed. It is compiled by itself, so that the loop over statements is
 /// small enough to be compiled into those around it.
 #[inline(never)]
@@ -374,8 +380,10 @@ fn evaluate_apart<V: View>(
     here: Here,
     operation: &Operation,
     top: &mut Activation,
+    numbers: &mut Vec<i64>,
 ) -> Did
     requires room { here.position.index + 1 < 2 ^ 64 }
+    requires kinds { layer.old.kinds ≡ setting.program.now.kinds }
     ensures done { Does here.passes_syncs here.position (λ kit. performed
         (lent setting.entry) kit here.position here.statement operation.now) top.old layer.old result top.new layer.new }
     ensures same_block { OnNext result (IsInBlock top.old top.new) }
@@ -389,6 +397,17 @@ fn evaluate_apart<V: View>(
             choose_evaluated(layer, setting.tables, here, condition, *first, *second, top)
         }
         Operation::Return(value) => give_evaluated(layer, setting.tables, here, value, top),
+        Operation::Update(reducer, values) => {
+            update_by_all(
+                layer,
+                setting,
+                here,
+                *reducer,
+                values.as_slice(),
+                top,
+                numbers,
+            )
+        }
         _ => Did::Nothing,
     }
 }

@@ -1,9 +1,9 @@
-use Rattle.std.proofs.Common.{map, take, refl}
+use Rattle.std.proofs.Common.{◌∙◌, map, take, ap}
 use Rattle.meaning.specs.TreeView.{decl}
 use Rattle.linked_program.specs.TableNames.{columned}
 use Rattle.linked_program.specs.Linked.{linked_body}
-use Rattle.linked_program.specs.declared.code.Instruction.{Instruction}
-use Rattle.linked_program.specs.CodeView.{HasShort}
+use Rattle.linked_program.specs.declared.code.Operation.{Operation}
+use Rattle.linked_program.specs.CodeView.{act, HasShort}
 use Rattle.linked_program.proofs.Pushes.{take_one_more, statement_push}
 use Rattle.linked_program.proofs.Shorts.{all_push}
 use Rattle.linked_program.proofs.linking.instructions.Goals as goal
@@ -16,9 +16,10 @@ loop-statement-preserved c =
     let i = c.loop-statement.statement-index in
     let s = c.statement-item.result in
     let is = c.loop-statement.made.items in
-    let x : Instruction = record { number = s.number; short = c.short_form.result; operation = c.in_ok-operation.operation } in
+    let x = c.in_ok-instruction.field-0 in
     record {
       acts = λ inner. rw (c.in_ok-push.ensures.items, take_one_more ss i s c.loop-statement-test.true c.statement-item.is)
-          (statement_push ts t inner (λ n. linked_body ts t (inner n)) is (take i ss) x s (c.loop-statement.invariant.acts inner) refl (c.in_ok-operation.ensures inner));
-      short = rw (c.in_ok-push.ensures.items) (all_push (HasShort c.args.kinds.now) is x c.loop-statement.invariant.short c.short_form.ensures.form);
+          (statement_push ts t inner (λ n. linked_body ts t (inner n)) is (take i ss) x s (c.loop-statement.invariant.acts inner) c.in_ok-instruction.ensures.number
+          (ap (λ (op : Operation). act (λ n. linked_body ts t (inner n)) op) c.in_ok-instruction.ensures.operation ∙ c.in_ok-operation.ensures inner));
+      short = rw (c.in_ok-push.ensures.items) (all_push (HasShort c.args.kinds.now) is x c.loop-statement.invariant.short c.in_ok-instruction.ensures.short);
     }

@@ -4,6 +4,7 @@ use Rattle.linked_program.specs.declared.code.Expression.{Expression}
 use Rattle.linked_program.specs.Linked.{updates}
 use Rattle.linked_program.specs.CodeView.{expression, IsFormOf, HasArity}
 use Rattle.linked_program.proofs.Ones.{one_of, two_of}
+use Rattle.linked_program.proofs.Shorts.{if_ok}
 use Rattle.linked_program.proofs.shortening.update_form.Goals as goal
 
 pub returns-then-not-two : goal.returns-then-not-two
@@ -17,7 +18,7 @@ returns-then-not-two c =
     let x = c.index-values-0.result in
     let count : length xs ≡ 1 = search rules in
     record {
-      form = λ inner. subst (λ (ys : List Expression). IsFormOf ks inner c.one_form.result (updates r (map expression ys))) (sym (one_of xs x count c.index-values-0.is)) (c.one_form.ensures.form ks inner takes);
+      form = if_ok c.one_form.result (λ made h inner. subst (λ (ys : List Expression). IsFormOf ks inner made (updates r (map expression ys))) (sym (one_of xs x count c.index-values-0.is)) (h ks inner takes)) c.one_form.ensures.form;
     }
 
 pub returns-then-two : goal.returns-then-two

@@ -7,6 +7,7 @@ use Rattle.positions.specs.Advance.{evaluated, binding, choosing, giving, perfor
 use Rattle.activations.specs.Given.{lent}
 use Rattle.own_statements.specs.Paths.{Does}
 use Rattle.own_statements.proofs.Paths.{does_as}
+use Rattle.own_statements.proofs.Updates.{does_update}
 use Rattle.own_statements.proofs.statements.evaluate_apart.Goals as goal
 
 pub returns-in-Bind-clause-done : goal.returns-in-Bind-clause-done
@@ -50,3 +51,8 @@ returns-in-Return-clause-done g c =
     let m = c.give_evaluated.new.layer in
     subst (λ (op : Operation). Does passes p (λ kit. performed S kit p n op) a l did b m) (sym c.in-Return.is)
     (does_as S passes p (λ (kit : Bool). evaluated n (value_at S.tables a.slots (expression c.in-Return.value)) giving) (λ kit. performed S kit p n (o.Return c.in-Return.value)) a l did b m (λ kit s. refl) c.give_evaluated.ensures.done)
+
+pub returns-in-Update-clause-done : goal.returns-in-Update-clause-done
+returns-in-Update-clause-done g c =
+    does_update (lent c.args.setting) c.args.here.passes_syncs c.args.here.position c.args.here.statement c.in-Update.reducer c.in-Update.values c.as_slice.result.now c.args.operation.now
+    c.args.top.now c.args.layer.now c.update_by_all.result c.update_by_all.new.top c.update_by_all.new.layer c.in-Update.is c.as_slice.ensures.value c.update_by_all.ensures.done
