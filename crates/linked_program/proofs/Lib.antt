@@ -3,6 +3,7 @@ pub mod Tried
 pub mod Numbers
 pub mod Ones
 pub mod Pushes
+pub mod Hinted
 pub mod Shorts
 pub mod Named
 pub mod Quiet

@@ -11,6 +11,7 @@ pub mod First
 pub mod Procedures
 pub mod Linked
 pub mod CodeView
+pub mod Bare
 pub mod Checked
 pub mod Fitting
 pub mod Links

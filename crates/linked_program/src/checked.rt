@@ -13,7 +13,7 @@ ghost use Rattle.linked_program.specs.Linked.{kinds_of, main_number, procedure_n
 ghost use Rattle.linked_program.specs.CodeView.{AreCodesOf, HasShort, memo_of, slots_of, instruction_at};
 ghost use Rattle.linked_program.specs.Checked.{IsChecked, numbers_in, names_in, number_in};
 
-use crate::code::{Code, Hints, Instruction};
+use crate::code::{Code, Hints, Instruction, NO_HINTS};
 use crate::fitting::numbers_fit;
 use crate::initial::Initial;
 use crate::linking::{procedure_number, procedure_place};
@@ -183,10 +183,7 @@ impl Checked {
     #[inline(always)]
     pub fn hints(&self, procedure: usize) -> Hints {
         match self.codes.get(procedure) {
-            None => Hints {
-                beside: false,
-                own: false,
-            },
+            None => NO_HINTS,
             Some(code) => code.hints,
         }
     }

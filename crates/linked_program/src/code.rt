@@ -123,7 +123,21 @@ pub struct Hints {
     pub beside: bool,
     /// Each statement calls no other procedure and reads nothing, so an instance's value may be found by recursion.
     pub own: bool,
+    /// Each statement is done by the instance itself, or calls a few levels of such instances that aren't recorded, so iterations may be
+    /// recorded in one go.
+    pub alone: bool,
+    /// No statement of the body loops, spawns an instance or reads a reducer, and what it calls does all by itself, so an instance may go
+    /// back without standing on the strand.
+    pub back: bool,
 }
+
+// Nothing may be tried.
+pub(crate) const NO_HINTS: Hints = Hints {
+    beside: false,
+    own: false,
+    alone: false,
+    back: false,
+};
 
 /// A procedure's code: whether its instances are recorded, how many slots an instance has, its parameters first, its blocks, of which the
 /// first is its body, and what may be tried with its instances.

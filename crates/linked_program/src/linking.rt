@@ -11,8 +11,8 @@ ghost use Rattle.linked_program.specs.Linked.{table_number as number_of_table, c
 ghost use Rattle.linked_program.specs.Linked.{linked_body, Acts, loops, kinds_of, constant, slot as slot_of, cell_at, joined as joined_by};
 ghost use Rattle.linked_program.specs.CodeView.{expression as plain, act, acts, IsCodeOf, AreBlocksOf, AreCodesOf, AreShort, AreShortBlocks, HasShort};
 
-use crate::code::{Code, CodeBlock, Expression, Instruction, Operation, RowCells};
-use crate::hints::hints;
+use crate::code::{Code, CodeBlock, Expression, Instruction, NO_HINTS, Operation, RowCells};
+use crate::hints::give_hints;
 use crate::shortening::short_form;
 use crate::tables::TableNames;
 use meaning::tree::{Action, Block, Declaration, Expr, Operator, Procedure, Statement};
@@ -408,7 +408,6 @@ fn code(
     declarations: &[Declaration],
     tables: &[TableNames],
     kinds: &[Kind],
-    number: usize,
     procedure: &Procedure,
 ) -> Result<Code, AllocError>
     requires kinds { kinds.now ≡ kinds_of (map decl declarations.now) }
@@ -416,12 +415,11 @@ fn code(
 {
     let slots = procedure.names.len();
     let blocks = code_blocks(alloc, declarations, tables, kinds, &procedure.blocks)?;
-    let hints = hints(number, blocks.as_slice());
     Ok(Code {
         memo: procedure.memo,
         slots,
         blocks,
-        hints,
+        hints: NO_HINTS,
     })
 }
 
@@ -435,10 +433,12 @@ pub fn codes(
         (map decl declarations.now) made.items (procedures (map decl declarations.now))) }
 {
     let kinds = kinds(alloc, declarations)?;
-    codes_over(alloc, declarations, tables, &kinds)
+    let mut made = codes_over(alloc, declarations, tables, &kinds)?;
+    give_hints(alloc, &mut made)?;
+    Ok(made)
 }
 
-// The same, where the reducers have these kinds.
+// The same without hints, where the reducers have these kinds.
 fn codes_over(
     alloc: Global,
     declarations: &[Declaration],
@@ -452,8 +452,7 @@ fn codes_over(
     let mut made = Vec::new(alloc);
     for declaration in declarations {
         if let Declaration::Procedure(procedure) = declaration {
-            let number = made.len();
-            made.push(code(alloc, declarations, tables, kinds, number, procedure)?)?;
+            made.push(code(alloc, declarations, tables, kinds, procedure)?)?;
         }
     }
     Ok(made)

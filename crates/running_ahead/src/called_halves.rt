@@ -15,7 +15,6 @@ ghost use Rattle.running_ahead.specs.Chains.{ChainsTo, HalfTo, IsClear, IsFewer,
 use crate::came::Chained;
 use crate::children::put_on_top;
 use crate::descent::{Part, Ready, descend};
-use crate::plain::may_go_back;
 use crate::turns::chain;
 use activations::activation::Activation;
 use activations::code::loop_code;
@@ -130,7 +129,7 @@ fn may_go<V: View>(machine: &Machine<V>, setting: Setting<'_>, callee: usize) ->
     ensures children { result ≡ true → machine.now.top.children + 1024 < 2 ^ 64 }
     ensures clear { result ≡ true → IsClear machine.now }
 {
-    if setting.program.is_memo(callee) || !may_go_back(setting.program, callee) {
+    if setting.program.is_memo(callee) || !setting.program.hints(callee).back {
         return false;
     }
     has_room(machine)
