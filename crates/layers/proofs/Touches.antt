@@ -1,5 +1,5 @@
 -- What a record keeps of a layer, gathered one number after another.
-use Rattle.std.proofs.Common.{◌≡◌, ℕ, zero, suc, ◌+◌, ◌<◌, ◌≤◌, Bool, true, false, cond, List, [], ◌∷◌, ◌++◌, length, drop, reverse, ℤ, Option, None, Some, slice_get, refl, sym, ap, ◌∙◌, subst, arith, get_or, add-one}
+use Rattle.std.proofs.Common.{◌≡◌, ℕ, zero, suc, ◌+◌, ◌<◌, ◌≤◌, Bool, true, false, cond, List, [], ◌∷◌, ◌++◌, length, drop, reverse, ℤ, Option, None, Some, option_map, slice_get, refl, sym, ap, ◌∙◌, subst, arith, get_or, add-one}
 use Rattle.std.proofs.lemmas.List.{append_assoc, append-nil, drop_all, drop_more, reverse-append}
 use Rattle.std.specs.Prelude.{IfSome}
 use Rattle.std.proofs.lemmas.List.Elements.{All-append, All-push}
@@ -117,6 +117,23 @@ module _ (xs : List (ℕ × ℕ)) (i : ℕ) (es : List (Name × ℕ)) (flags : L
 pub only_entry : (es : List (Name × ℕ)) (flags : List Bool) (o : Option ℕ) → found_entry es o ≡ entries_from 0 es flags → IfSome o (λ i. entries_from 0 es flags ≡ entry_of i (slice_get es i))
 only_entry es flags None e = tt
 only_entry es flags (Some i) e = sym e
+
+-- where two were found at last they are the only ones
+pub two_entries : (es : List (Name × ℕ)) (flags : List Bool) (older newer : Option ℕ) (o : Option (ℕ × ℕ)) → IfSome o (λ p. older ≡ Some p.0) → IfSome o (λ p. newer ≡ Some p.1)
+    → found_entry es older ++ found_entry es newer ≡ entries_from 0 es flags
+    → IfSome o (λ p. entries_from 0 es flags ≡ entry_of p.0 (slice_get es p.0) ++ entry_of p.1 (slice_get es p.1))
+two_entries es flags older newer None a b e = tt
+two_entries es flags older newer (Some p) a b e =
+    sym e ∙ ap (λ o. found_entry es o ++ found_entry es newer) a ∙ ap (λ o. entry_of p.0 (slice_get es p.0) ++ found_entry es o) b
+
+entry_is : (i : ℕ) (o : Option (Name × ℕ)) (v : ℕ) → option_map (λ e. e.1) o ≡ Some v → entry_of i o ≡ (i, v) ∷ []
+entry_is i None v e = absurd cc
+entry_is i (Some x) v e = (let same : x.1 ≡ v = cc in ap (λ n. (i, n) ∷ []) same)
+
+-- two procedures that are there, with their revision numbers
+pub pair_is : (es : List (Name × ℕ)) (i j v w : ℕ) → option_map (λ e. e.1) (slice_get es i) ≡ Some v → option_map (λ e. e.1) (slice_get es j) ≡ Some w
+    → entry_of i (slice_get es i) ++ entry_of j (slice_get es j) ≡ (i, v) ∷ (j, w) ∷ []
+pair_is es i j v w a b = ap (λ xs. xs ++ entry_of j (slice_get es j)) (entry_is i (slice_get es i) v a) ∙ ap (λ xs. (i, v) ∷ xs) (entry_is j (slice_get es j) w b)
 
 -- ---- the identities
 

@@ -1,22 +1,23 @@
-// Layers of most leaves: two reducers were used, no more than two cells were read, and one procedure was entered. Their record is made in
-// one go, each part where it will lie, and no part goes through another result.
+// Layers of most leaves: two reducers were used, and no more than two cells were read. Their record is made in one go, each part where it
+// will lie, and no part goes through another result.
 ghost use Rattle.std.specs.Prelude.{true, ◌≡◌, ◌∷◌, [], ◌&&◌, ◌<◌, ◌≤◌, suc, IfSome, OnErr, OnOk, OnSome, All, length, map, slice_get, vec_len, vec_capacity};
 ghost use Rattle.monoid_laws.specs.Kinds.{IsMonoid, identities, identity_of, meaning};
 ghost use Rattle.hypermaps.specs.Layer.{IsAt};
 ghost use Rattle.evaluation.specs.Short.{note_of};
 ghost use Rattle.instance_records.specs.Gifts.{given_by};
+ghost use Rattle.instance_records.specs.Parts.{entries_in};
 ghost use Rattle.instance_records.specs.Readings.{all_of};
 ghost use Rattle.positions.specs.Layers.{covered, kept_behind, kept_reads};
-ghost use Rattle.positions.specs.Tallies.{touched_from, entries_from};
+ghost use Rattle.positions.specs.Tallies.{touched_from};
 ghost use Rattle.positions.specs.Values.{same_worth};
 ghost use Rattle.layers.specs.Folds.{HasSameProduct, IsSameButWorths};
-ghost use Rattle.layers.specs.Recordings.{recorded, entry_of};
+ghost use Rattle.layers.specs.Recordings.{recorded};
 ghost use Rattle.view_pool.specs.Short.{value_in};
 
 use crate::absorbing::push_shared;
 use crate::joining::flag_all;
 use crate::layer::Layer;
-use crate::recording::{Opened, are_of_few_columns, few_reads, only_up};
+use crate::recording::{Opened, are_of_few_columns, few_reads};
 use evaluation::reading::Reading;
 use hypermaps::Hypermap;
 use instance_records::entries::Entries;
@@ -31,14 +32,11 @@ use positions::identities::is_identity;
 use std::alloc::AllocError;
 use view_pool::{ShortValue, View, let_go_short};
 
-/// What lies at hand of a record: what the instance gave to the two reducers, the only procedure entered with its revision number, how
-/// many instances were nested, and the value.
+/// What lies at hand of a record: what the instance gave to the two reducers, how many instances were nested, and the value.
 #[derive(Clone, Copy)]
 pub(crate) struct Leaf {
     pub(crate) first: ShortValue,
     pub(crate) second: ShortValue,
-    pub(crate) procedure: usize,
-    pub(crate) revision: u64,
     pub(crate) levels: u32,
     pub(crate) value: i64,
 }
@@ -51,8 +49,6 @@ impl<V: View> Layer<V> {
         requires kinds { self.now.kinds ≡ program.now.kinds }
         ensures few { OnSome result (length self.now.notes ≤ 2) }
         ensures kept { OnSome result (kept_reads self.now ≡ self.now.notes) }
-        ensures entry { IfSome result (λ l.
-            entries_from 0 program.now.revisions self.now.entered ≡ (l.procedure, l.revision) ∷ []) }
         ensures levels { IfSome result (λ l. l.levels ≡ suc self.now.deepest) }
         ensures value { IfSome result (λ l. l.value ≡ value) }
         ensures worths { IfSome result (λ l. self.now.worths ≡ meaning (value_in l.first) ∷ meaning (value_in l.second) ∷ []) }
@@ -62,14 +58,11 @@ impl<V: View> Layer<V> {
         if !self.is_of_few(program) {
             return None;
         }
-        let entry = self.only_entry(program)?;
         let levels = self.deepest.checked_add(1)?;
         let values = two_values(&self.hypermap, program.kinds())?;
         Some(Leaf {
             first: values.0,
             second: values.1,
-            procedure: entry.0,
-            revision: entry.1,
             levels,
             value,
         })
@@ -87,18 +80,6 @@ impl<V: View> Layer<V> {
             return false;
         }
         self.shared.is_empty() && are_of_few_columns(self.notes.readings())
-    }
-
-    /// The only procedure entered with its revision number; none where there is none or another one.
-    #[inline(always)]
-    pub(crate) fn only_entry(&self, program: &Checked) -> Option<(usize, u64)>
-        ensures only { IfSome result (λ e.
-            entries_from 0 program.now.revisions self.now.entered ≡ e ∷ []) }
-    {
-        match only_up(&self.entered) {
-            Some(procedure) => entry_at(procedure, program),
-            None => None,
-        }
     }
 
     /// Puts a layer of no more than two readings, whose two reducers are worth these, and which becomes a record, behind this, and leaves
@@ -143,17 +124,6 @@ pub(crate) fn push_few(keeps: bool, shared: &mut Vec<Readings>, found: &[Reading
 {
     if keeps {
         push_shared(shared, few_reads(found));
-    }
-}
-
-/// The number of a procedure with its revision number, where there is one.
-#[inline(always)]
-fn entry_at(procedure: usize, program: &Checked) -> Option<(usize, u64)>
-    ensures entry { IfSome result (λ e. entry_of procedure (slice_get program.now.revisions procedure) ≡ e ∷ []) }
-{
-    match program.revision_at(procedure) {
-        Some(revision) => Some((procedure, revision)),
-        None => None,
     }
 }
 
@@ -224,14 +194,20 @@ pub(crate) fn gift_of(reducer: u16, value: ShortValue) -> Gift
     }
 }
 
-/// The record of an instance that is over: of what it gave to two reducers, and of no more than two readings. It takes no memory.
+/// The record of an instance that is over: of what it gave to two reducers, of no more than two readings, and of the procedures that were
+/// entered. It takes no memory.
 #[inline(always)]
-pub(crate) fn record_of_two(opened: Opened, found: &[Reading], leaf: Leaf) -> Record
+pub(crate) fn record_of_two(
+    opened: Opened,
+    found: &[Reading],
+    entered: Entries,
+    leaf: Leaf,
+) -> Record
     requires few { length found.now ≤ 2 }
     ensures record { result ≡ recorded (record {
       contribution = (0, meaning (value_in leaf.first)) ∷ (1, meaning (value_in leaf.second)) ∷ [];
       reads = map note_of found.now;
-      entered = (leaf.procedure, leaf.revision) ∷ [];
+      entered = entries_in entered;
       levels = leaf.levels;
     }) opened leaf.value }
 {
@@ -242,7 +218,7 @@ pub(crate) fn record_of_two(opened: Opened, found: &[Reading], leaf: Leaf) -> Re
         leaf.value,
         ShortList::Two([gift_of(0, leaf.first), gift_of(1, leaf.second)]),
         few_reads(found),
-        Entries::One((leaf.procedure, leaf.revision)),
+        entered,
         height(leaf.levels, left),
     )
 }

@@ -4,6 +4,7 @@
 mod absorbing;
 pub mod closing;
 mod counts;
+mod entered;
 mod few_values;
 mod gathered;
 mod joining;

@@ -3,8 +3,9 @@ ghost use Rattle.std.specs.Prelude.{true, ◌≡◌, ◌∷◌, [], ◌≤◌, s
 ghost use Rattle.monoid_laws.specs.Kinds.{IsMonoid, identities, meaning};
 ghost use Rattle.hypermaps.specs.Layer.{IsAt};
 ghost use Rattle.evaluation.specs.Short.{note_of};
+ghost use Rattle.instance_records.specs.Parts.{entries_in};
 ghost use Rattle.positions.specs.Layers.{covered, kept_reads};
-ghost use Rattle.positions.specs.Tallies.{touched_from, entries_from};
+ghost use Rattle.positions.specs.Tallies.{touched_from};
 ghost use Rattle.layers.specs.Folds.{HasSameProduct, IsSameButWorths};
 ghost use Rattle.layers.specs.Recordings.{recorded};
 ghost use Rattle.view_pool.specs.Short.{value_in};
@@ -24,13 +25,10 @@ use positions::heights::height;
 use std::alloc::AllocError;
 use view_pool::{ShortValue, View};
 
-/// What lies at hand of a record: what the instance gave to the reducer, the only procedure entered with its revision number, how many
-/// instances were nested, and the value.
+/// What lies at hand of a record: what the instance gave to the reducer, how many instances were nested, and the value.
 #[derive(Clone, Copy)]
 pub(crate) struct Lone {
     pub(crate) gift: ShortValue,
-    pub(crate) procedure: usize,
-    pub(crate) revision: u64,
     pub(crate) levels: u32,
     pub(crate) value: i64,
 }
@@ -43,8 +41,6 @@ impl<V: View> Layer<V> {
         requires kinds { self.now.kinds ≡ program.now.kinds }
         ensures few { OnSome result (length self.now.notes ≤ 2) }
         ensures kept { OnSome result (kept_reads self.now ≡ self.now.notes) }
-        ensures entry { IfSome result (λ l.
-            entries_from 0 program.now.revisions self.now.entered ≡ (l.procedure, l.revision) ∷ []) }
         ensures levels { IfSome result (λ l. l.levels ≡ suc self.now.deepest) }
         ensures value { IfSome result (λ l. l.value ≡ value) }
         ensures worths { IfSome result (λ l. self.now.worths ≡ meaning (value_in l.gift) ∷ []) }
@@ -54,13 +50,10 @@ impl<V: View> Layer<V> {
         if !self.is_of_one(program) {
             return None;
         }
-        let entry = self.only_entry(program)?;
         let levels = self.deepest.checked_add(1)?;
         let gift = one_value(&self.hypermap, program.kinds())?;
         Some(Lone {
             gift,
-            procedure: entry.0,
-            revision: entry.1,
             levels,
             value,
         })
@@ -144,14 +137,20 @@ fn is_touched<V: View>(hypermap: &Hypermap<V>, kinds: &[Kind], gift: ShortValue)
     true
 }
 
-/// The record of an instance that is over: of what it gave to one reducer, and of no more than two readings. It takes no memory.
+/// The record of an instance that is over: of what it gave to one reducer, of no more than two readings, and of the procedures that were
+/// entered. It takes no memory.
 #[inline(always)]
-pub(crate) fn record_of_one(opened: Opened, found: &[Reading], lone: Lone) -> Record
+pub(crate) fn record_of_one(
+    opened: Opened,
+    found: &[Reading],
+    entered: Entries,
+    lone: Lone,
+) -> Record
     requires few { length found.now ≤ 2 }
     ensures record { result ≡ recorded (record {
       contribution = (0, meaning (value_in lone.gift)) ∷ [];
       reads = map note_of found.now;
-      entered = (lone.procedure, lone.revision) ∷ [];
+      entered = entries_in entered;
       levels = lone.levels;
     }) opened lone.value }
 {
@@ -162,7 +161,7 @@ pub(crate) fn record_of_one(opened: Opened, found: &[Reading], lone: Lone) -> Re
         lone.value,
         ShortList::One(gift_of(0, lone.gift)),
         few_reads(found),
-        Entries::One((lone.procedure, lone.revision)),
+        entered,
         height(lone.levels, left),
     )
 }

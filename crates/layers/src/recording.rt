@@ -1,6 +1,5 @@
 //! What is kept of a memo instance whose layer is open, and what a record keeps of the layer once it is over.
-ghost use Rattle.std.specs.Prelude.{true, false, suc, ◌≡◌, ◌<◌, ◌≤◌, ◌++◌, ℕ, IfOk, IfSome, List, OnOk, length, map, slice_get};
-ghost use Rattle.meaning.specs.Tree.{Name};
+ghost use Rattle.std.specs.Prelude.{true, false, suc, ◌≡◌, ◌<◌, ◌≤◌, ◌++◌, IfOk, OnOk, length, map};
 ghost use Rattle.monoid_laws.specs.Worth.{Worth};
 ghost use Rattle.monoid_laws.specs.Kinds.{meaning};
 ghost use Rattle.hypermaps.specs.Layer.{IsAt};
@@ -16,7 +15,7 @@ ghost use Rattle.positions.specs.Layers.{kept_reads as kept_reads_of};
 ghost use Rattle.positions.specs.Values.{once, put_note};
 ghost use Rattle.positions.specs.Tallies.{touched_from, touched_at, entries_from};
 ghost use Rattle.layers.specs.Gatherings.{gathered_in};
-ghost use Rattle.layers.specs.Recordings.{recording_of, recorded, entry_of};
+ghost use Rattle.layers.specs.Recordings.{recording_of, recorded};
 
 use crate::few_values::{kept_value, value_of_one, values_of_some, values_of_used};
 use crate::gathered::Gathered;
@@ -262,15 +261,6 @@ impl<V: View> Layer<V> {
     {
         kept_reads(alloc, &self.notes, &self.shared)
     }
-
-    /// The numbers of the procedures that were entered, each with its revision number.
-    #[inline(always)]
-    pub(crate) fn entries(&self, alloc: Global, program: &Checked) -> Result<Entries, AllocError>
-        ensures entries { IfOk result (λ es.
-            entries_in es ≡ entries_from 0 program.now.revisions self.now.entered) }
-    {
-        entries(alloc, &self.entered, program)
-    }
 }
 
 /// Copies of the values that are not the identities, gathered one after another.
@@ -493,76 +483,4 @@ fn mark(seen: &mut IndexSet<Note>, note: Note) -> Result<(), AllocError>
         Ok(_) => Ok(()),
         Err(_) => Err(AllocError),
     }
-}
-
-/// The numbers of the procedures whose flags are up, each with its revision number. That of the only one is put into its list at once.
-#[inline(always)]
-fn entries(alloc: Global, flags: &[bool], program: &Checked) -> Result<Entries, AllocError>
-    ensures entries { IfOk result (λ es.
-        entries_in es ≡ entries_from 0 program.now.revisions flags.now) }
-{
-    match only_up(flags) {
-        Some(procedure) => Ok(entry_of_one(procedure, program)),
-        None => entries_of_all(alloc, flags, program),
-    }
-}
-
-/// The number of the only flag that is up; none where there is none or another one.
-#[inline(always)]
-pub(crate) fn only_up(flags: &[bool]) -> Option<usize>
-    ensures only { (es : List (Name × ℕ)) → IfSome result (λ i. entries_from 0 es flags.now ≡ entry_of i (slice_get es i)) }
-{
-    let mut found = None;
-    for i in 0..flags.len() {
-        if flags[i] {
-            if found.is_some() {
-                return None;
-            }
-            found = Some(i);
-        }
-    }
-    found
-}
-
-/// The number of a procedure, where there is one, with its revision number, in a list. It takes no memory.
-#[inline(always)]
-fn entry_of_one(procedure: usize, program: &Checked) -> Entries
-    ensures entry { entries_in result ≡ entry_of procedure (slice_get program.now.revisions procedure) }
-{
-    match program.revision_at(procedure) {
-        Some(revision) => Entries::One((procedure, revision)),
-        None => Entries::Nothing,
-    }
-}
-
-/// The numbers of the procedures whose flags are up, however many, each with its revision number.
-#[inline(never)]
-fn entries_of_all(alloc: Global, flags: &[bool], program: &Checked) -> Result<Entries, AllocError>
-    ensures entries { IfOk result (λ es.
-        entries_in es ≡ entries_from 0 program.now.revisions flags.now) }
-{
-    let mut entries = Entries::Nothing;
-    for procedure in 0..flags.len() {
-        if flags[procedure] {
-            push_entry(alloc, &mut entries, procedure, program)?;
-        }
-    }
-    entries.shrink_to_fit();
-    Ok(entries)
-}
-
-/// Puts the number of a procedure, where there is one, with its revision number behind the others.
-fn push_entry(
-    alloc: Global,
-    entries: &mut Entries,
-    procedure: usize,
-    program: &Checked,
-) -> Result<(), AllocError>
-    ensures pushed { OnOk result (entries_in entries.new
-        ≡ entries_in entries.old ++ entry_of procedure (slice_get program.now.revisions procedure)) }
-{
-    if let Some(revision) = program.revision_at(procedure) {
-        entries.push(alloc, (procedure, revision))?;
-    }
-    Ok(())
 }

@@ -3,12 +3,12 @@ ghost use Rattle.std.specs.Prelude.{◌≡◌, ◌∷◌, [], suc, ◌+◌, ◌�
 ghost use Rattle.monoid_laws.specs.Kinds.{IsMonoid, identities, meaning};
 ghost use Rattle.record_theory.specs.Named.{AreValuesFrom, HaveValues};
 ghost use Rattle.positions.specs.Layers.{multiplied, covered, absorbing, kept_reads};
-ghost use Rattle.positions.specs.Tallies.{no_tally, passing, answering, opening, is_own, closing, tallies_joined, touched_from, entries_from};
+ghost use Rattle.positions.specs.Tallies.{no_tally, passing, answering, opening, is_own, closing, tallies_joined, touched_from};
 ghost use Rattle.layers.specs.Folds.{IsSameButWorths, HasSameProduct, BothHaveValues};
 ghost use Rattle.layers.specs.Owners.{owner_of};
 ghost use Rattle.view_pool.specs.Short.{value_in};
 
-use crate::counts::{one_more, sum};
+use crate::counts::{counts_of, one_more, sum};
 use crate::few_values::let_go;
 use crate::layer::Layer;
 use crate::leaves::{Leaf, record_of_two};
@@ -48,27 +48,6 @@ impl Model for Tally {
     } };
 
     ghost invariant = { λ t. IsRoomy t.made };
-}
-
-/// How many instances were executed, answered by a record, and executed without a layer.
-#[derive(Clone, Copy)]
-struct Counts {
-    executed: u64,
-    reused: u64,
-    unrecorded: u64,
-}
-
-/// The counts of two strands together; refused where one is past the limit.
-fn counts_of(left: &Tally, right: &Tally) -> Result<Counts, AllocError>
-    ensures executed { IfOk result (λ c. c.executed ≡ left.now.executed + right.now.executed) }
-    ensures reused { IfOk result (λ c. c.reused ≡ left.now.reused + right.now.reused) }
-    ensures unrecorded { IfOk result (λ c. c.unrecorded ≡ left.now.unrecorded + right.now.unrecorded) }
-{
-    Ok(Counts {
-        executed: sum(left.executed, right.executed)?,
-        reused: sum(left.reused, right.reused)?,
-        unrecorded: sum(left.unrecorded, right.unrecorded)?,
-    })
 }
 
 impl Tally {
@@ -221,7 +200,7 @@ impl Tally {
         ensures product { OnErr result (HasSameProduct below.old top.old below.new top.new) }
     {
         match top.leaf(program, value) {
-            Some(leaf) => self.close_leaf(top, below, program, leaf),
+            Some(leaf) => self.close_leaf(alloc, top, below, program, leaf),
             None => self.close_any(alloc, top, below, value, program),
         }
     }
@@ -255,7 +234,7 @@ impl Tally {
             → HaveValues top.old.kinds self.new.made }
     {
         match top.leaf(program, value) {
-            Some(leaf) => self.record_leaf(opened, top, below, program, leaf),
+            Some(leaf) => self.record_leaf(alloc, opened, top, below, program, leaf),
             None => self.record_other(alloc, opened, top, below, value, program),
         }
     }
@@ -287,7 +266,7 @@ impl Tally {
             → HaveValues top.old.kinds self.new.made }
     {
         match top.lone(program, value) {
-            Some(lone) => self.record_lone(opened, top, below, program, lone),
+            Some(lone) => self.record_lone(alloc, opened, top, below, program, lone),
             None => self.record_any(alloc, opened, top, below, value, program),
         }
     }
@@ -370,23 +349,23 @@ impl Tally {
     #[inline(always)]
     fn close_leaf<V: View>(
         &mut self,
+        alloc: Global,
         top: &mut Layer<V>,
         below: &mut Layer<V>,
-        _program: &Checked,
+        program: &Checked,
         leaf: Leaf,
     ) -> Result<(), AllocError>
         requires few { length top.old.notes ≤ 2 }
         requires kept { kept_reads top.old ≡ top.old.notes }
-        requires entry { entries_from 0 _program.now.revisions top.old.entered ≡ (leaf.procedure, leaf.revision) ∷ [] }
         requires levels { leaf.levels ≡ suc top.old.deepest }
         requires worths { top.old.worths ≡ meaning (value_in leaf.first) ∷ meaning (value_in leaf.second) ∷ [] }
         requires touched { touched_from 0 top.old.kinds top.old.worths
             ≡ (0, meaning (value_in leaf.first)) ∷ (1, meaning (value_in leaf.second)) ∷ [] }
-        requires kinds { top.old.kinds ≡ _program.now.kinds }
+        requires kinds { top.old.kinds ≡ program.now.kinds }
         requires same_kinds { below.old.kinds ≡ top.old.kinds }
         requires monoids { All IsMonoid below.old.kinds }
         ensures closed { OnOk result
-            (self.new ≡ closing _program.now.revisions top.old leaf.value self.old) }
+            (self.new ≡ closing program.now.revisions top.old leaf.value self.old) }
         ensures covered { OnOk result (below.new ≡ covered below.old top.old) }
         ensures emptied { OnOk result (top.new.worths ≡ identities top.old.kinds) }
         ensures top_kinds { top.new.kinds ≡ top.old.kinds }
@@ -400,13 +379,17 @@ impl Tally {
     {
         top.of_kinds();
         self.made.make_room()?;
-        below.cover_of_few(top, leaf.first, leaf.second)?;
+        let entered = top.entries(alloc, program)?;
+        if below.cover_of_few(top, leaf.first, leaf.second).is_err() {
+            let_go(entered);
+            return Err(AllocError);
+        }
         match self.opened.pop() {
             Some(opened) => {
                 let found = top.notes.readings();
-                self.made.push(record_of_two(opened, found, leaf));
+                self.made.push(record_of_two(opened, found, entered, leaf));
             }
-            None => {}
+            None => let_go(entered),
         }
         Ok(())
     }
@@ -415,24 +398,24 @@ impl Tally {
     #[inline(always)]
     fn record_leaf<V: View>(
         &mut self,
+        alloc: Global,
         opened: Opened,
         top: &mut Layer<V>,
         below: &mut Layer<V>,
-        _program: &Checked,
+        program: &Checked,
         leaf: Leaf,
     ) -> Result<bool, AllocError>
         requires few { length top.old.notes ≤ 2 }
         requires kept { kept_reads top.old ≡ top.old.notes }
-        requires entry { entries_from 0 _program.now.revisions top.old.entered ≡ (leaf.procedure, leaf.revision) ∷ [] }
         requires levels { leaf.levels ≡ suc top.old.deepest }
         requires worths { top.old.worths ≡ meaning (value_in leaf.first) ∷ meaning (value_in leaf.second) ∷ [] }
         requires touched { touched_from 0 top.old.kinds top.old.worths
             ≡ (0, meaning (value_in leaf.first)) ∷ (1, meaning (value_in leaf.second)) ∷ [] }
-        requires kinds { top.old.kinds ≡ _program.now.kinds }
+        requires kinds { top.old.kinds ≡ program.now.kinds }
         requires same_kinds { below.old.kinds ≡ top.old.kinds }
         requires monoids { All IsMonoid below.old.kinds }
         ensures closed { IfOk result (λ done. done ≡ true
-            → self.new ≡ closing _program.now.revisions top.old leaf.value (opening opened self.old)) }
+            → self.new ≡ closing program.now.revisions top.old leaf.value (opening opened self.old)) }
         ensures covered { IfOk result (λ done. done ≡ true → below.new ≡ covered below.old top.old) }
         ensures emptied { IfOk result (λ done. done ≡ true → top.new.worths ≡ identities top.old.kinds) }
         ensures same { IfOk result (λ done. done ≡ false → self.new ≡ self.old) }
@@ -456,13 +439,18 @@ impl Tally {
             let_go(opened);
             return Ok(false);
         }
+        let Ok(entered) = top.entries(alloc, program) else {
+            let_go(opened);
+            return Ok(false);
+        };
         self.executed = executed;
         if below.cover_of_few(top, leaf.first, leaf.second).is_err() {
+            let_go(entered);
             self.opened.push_reserved(opened);
             return Err(AllocError);
         }
         let found = top.notes.readings();
-        self.made.push(record_of_two(opened, found, leaf));
+        self.made.push(record_of_two(opened, found, entered, leaf));
         Ok(true)
     }
 
@@ -470,24 +458,24 @@ impl Tally {
     #[inline(always)]
     fn record_lone<V: View>(
         &mut self,
+        alloc: Global,
         opened: Opened,
         top: &mut Layer<V>,
         below: &mut Layer<V>,
-        _program: &Checked,
+        program: &Checked,
         lone: Lone,
     ) -> Result<bool, AllocError>
         requires few { length top.old.notes ≤ 2 }
         requires kept { kept_reads top.old ≡ top.old.notes }
-        requires entry { entries_from 0 _program.now.revisions top.old.entered ≡ (lone.procedure, lone.revision) ∷ [] }
         requires levels { lone.levels ≡ suc top.old.deepest }
         requires worths { top.old.worths ≡ meaning (value_in lone.gift) ∷ [] }
         requires touched { touched_from 0 top.old.kinds top.old.worths
             ≡ (0, meaning (value_in lone.gift)) ∷ [] }
-        requires kinds { top.old.kinds ≡ _program.now.kinds }
+        requires kinds { top.old.kinds ≡ program.now.kinds }
         requires same_kinds { below.old.kinds ≡ top.old.kinds }
         requires monoids { All IsMonoid below.old.kinds }
         ensures closed { IfOk result (λ done. done ≡ true
-            → self.new ≡ closing _program.now.revisions top.old lone.value (opening opened self.old)) }
+            → self.new ≡ closing program.now.revisions top.old lone.value (opening opened self.old)) }
         ensures covered { IfOk result (λ done. done ≡ true → below.new ≡ covered below.old top.old) }
         ensures emptied { IfOk result (λ done. done ≡ true → top.new.worths ≡ identities top.old.kinds) }
         ensures same { IfOk result (λ done. done ≡ false → self.new ≡ self.old) }
@@ -511,13 +499,18 @@ impl Tally {
             let_go(opened);
             return Ok(false);
         }
+        let Ok(entered) = top.entries(alloc, program) else {
+            let_go(opened);
+            return Ok(false);
+        };
         self.executed = executed;
         if below.cover_of_one(top, lone.gift).is_err() {
+            let_go(entered);
             self.opened.push_reserved(opened);
             return Err(AllocError);
         }
         let found = top.notes.readings();
-        self.made.push(record_of_one(opened, found, lone));
+        self.made.push(record_of_one(opened, found, entered, lone));
         Ok(true)
     }
 

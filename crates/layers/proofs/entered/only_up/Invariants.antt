@@ -2,7 +2,7 @@ use Rattle.std.proofs.Common.{◌≡◌, ◌++◌, ℕ, List, drop}
 use Rattle.meaning.specs.Tree.{Name}
 use Rattle.positions.specs.Tallies.{entries_from}
 use Rattle.layers.specs.Recordings.{found_entry}
-use Rattle.layers.proofs.recording.only_up.Given as goal
+use Rattle.layers.proofs.entered.only_up.Given as goal
 
 abbrev pub invariant-loop-i : goal.invariant-loop-i
 invariant-loop-i l = (es : List (Name × ℕ)) → found_entry es l.found ++ entries_from l.i (drop l.i es) (drop l.i l.flags) ≡ entries_from 0 es l.flags

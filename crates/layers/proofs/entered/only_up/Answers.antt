@@ -2,8 +2,8 @@ use Rattle.std.proofs.Common.{rules, ◌≡◌, ◌++◌, ◌+◌, [], None, ap,
 use Rattle.positions.specs.Tallies.{entries_from}
 use Rattle.layers.specs.Recordings.{entry_of, found_entry}
 use Rattle.layers.proofs.Touches.{entries_all, entry_next, entry_passed, only_entry}
-use Rattle.layers.proofs.recording.only_up.Goals as goal
-use Rattle.layers.proofs.recording.only_up.Goals.{then-flags-i+else-is_some, else-flags-i}
+use Rattle.layers.proofs.entered.only_up.Goals as goal
+use Rattle.layers.proofs.entered.only_up.Goals.{then-flags-i+else-is_some, else-flags-i}
 
 pub loop-i-preserved : goal.loop-i-preserved
 loop-i-preserved c = elim c.if-flags-i.branch [

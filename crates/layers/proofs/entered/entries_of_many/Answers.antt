@@ -2,8 +2,8 @@ use Rattle.std.proofs.Common.{rules, ◌++◌, ap, ◌∙◌, drop, ◌+◌}
 use Rattle.positions.specs.Tallies.{entries_from}
 use Rattle.instance_records.specs.Parts.{entries_in}
 use Rattle.layers.proofs.Touches.{entry_next, entry_passed, entries_all}
-use Rattle.layers.proofs.recording.entries_of_all.Goals as goal
-use Rattle.layers.proofs.recording.entries_of_all.Goals.{then-flags-procedure+in_ok-push_entry, else-flags-procedure}
+use Rattle.layers.proofs.entered.entries_of_many.Goals as goal
+use Rattle.layers.proofs.entered.entries_of_many.Goals.{then-flags-procedure+in_ok-push_entry, else-flags-procedure}
 
 pub loop-procedure-preserved : goal.loop-procedure-preserved
 loop-procedure-preserved c = elim c.if-flags-procedure.branch [

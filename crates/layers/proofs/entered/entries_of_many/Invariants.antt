@@ -1,7 +1,7 @@
 use Rattle.std.proofs.Common.{◌≡◌, ◌++◌, drop}
 use Rattle.positions.specs.Tallies.{entries_from}
 use Rattle.instance_records.specs.Parts.{entries_in}
-use Rattle.layers.proofs.recording.entries_of_all.Given as goal
+use Rattle.layers.proofs.entered.entries_of_many.Given as goal
 
 abbrev pub invariant-loop-procedure : goal.invariant-loop-procedure
 invariant-loop-procedure l =
