@@ -1,5 +1,5 @@
 -- The answers to commands, one after another.
-use Rattle.std.proofs.Common.{◌≡◌, ◌⊎◌, ℕ, ◌+◌, ◌<◌, ◌≤◌, List, [], ◌∷◌, ◌++◌, map, drop, take, take_all, length, get_or, inl, inr, refl, sym, ap, subst, add-one, arith, ◌∙◌}
+use Rattle.std.proofs.Common.{◌≡◌, ◌⊎◌, ℕ, ◌+◌, ◌<◌, ◌≤◌, List, [], ◌∷◌, ◌++◌, map, drop, take, take_all, length, get_or, append-nil, Option, Some, None, IfSome, inl, inr, refl, sym, ap, subst, add-one, arith, ◌∙◌}
 use Rattle.std.proofs.Math.Seq.{drop-cons}
 use Rattle.std.proofs.lemmas.List.{map-append, take-append-drop, take_more}
 use Rattle.meaning.specs.Script as script
@@ -9,7 +9,7 @@ use Rattle.script_reader.specs.declared.command.Command.{Command}
 use Rattle.script_reader.specs.Said.{said}
 use Rattle.kept_session.specs.Sessions.{PlainSession}
 use Rattle.checked_defines.specs.Standings.{standing}
-use Rattle.script_session.specs.Answers.{IsLeftByFirst, MayBeLeft, answer_text, answers_from, answers_text, first_answers, left_by_commands, standing_after}
+use Rattle.script_session.specs.Answers.{IsLeftByFirst, MayBeLeft, answer_text, answers_from, answers_text, first_answers, left_by_commands, left_by_script, standing_after}
 use Rattle.script_session.specs.Sessions.{answers_of}
 
 -- the answers from a command on: its own first
@@ -33,6 +33,28 @@ one_more_answer s t runs after k items command done all h at left counted before
 left_by-append : (s : Standing) (xs ys : List script.Command) → left_by_commands s (xs ++ ys) ≡ left_by_commands (left_by_commands s xs) ys
 left_by-append s [] ys = refl
 left_by-append s (x ∷ xs) ys = left_by-append (standing_after s x) xs ys
+
+-- none of the commands was done, or all were
+pub none_left : (s : Standing) (cs : List script.Command) → IsLeftByFirst s s cs
+none_left s cs = ([], cs, refl, refl)
+
+pub all_are_first : (s t : Standing) (cs : List script.Command) → t ≡ left_by_commands s cs → IsLeftByFirst s t cs
+all_are_first s t cs e = (cs, [], append-nil cs, e)
+
+-- of a script that may be known
+pub none_left_of : (known : Option (List ℕ)) (s : Standing) → IfSome known (λ text. IsLeftByFirst s s (script.commands text))
+none_left_of None s = tt
+none_left_of (Some text) s = none_left s (script.commands text)
+
+pub first_left_of : (known : Option (List ℕ)) (text : List ℕ) (s t : Standing) → IfSome known (λ bytes. text ≡ bytes) → IsLeftByFirst s t (script.commands text)
+    → IfSome known (λ bytes. IsLeftByFirst s t (script.commands bytes))
+first_left_of None text s t is h = tt
+first_left_of (Some bytes) text s t is h = subst (λ x. IsLeftByFirst s t (script.commands x)) is h
+
+pub all_left_of : (known : Option (List ℕ)) (text : List ℕ) (s t : Standing) → IfSome known (λ bytes. text ≡ bytes) → t ≡ left_by_script s text
+    → IfSome known (λ bytes. t ≡ left_by_script s bytes)
+all_left_of None text s t is h = tt
+all_left_of (Some bytes) text s t is h = subst (λ x. t ≡ left_by_script s x) is h
 
 -- a session stands behind so many commands
 module _ (s now : Standing) (k : ℕ) (items : List Command) (stands : now ≡ left_by_commands s (map said (take k items))) where

@@ -89,8 +89,8 @@ pub fn session_text<V: View, N: Notes, R: Read, W: Write, T: Threads + Wait + Sy
 }
 
 /// Does what `session_text` does in a session that is only lent: who owns it goes on with it, or ends it. Where all is answered the
-/// session is what the script's edits leave, with as many kits; where it ends early, what some first commands leave. The records of the script's last run, behind which none asks for them,
-/// aren't put into the session: they are left to the caller, in a tally.
+/// session is what the script's edits leave, with as many kits; where it ends early, what some first commands leave. The records of the
+/// script's last run, behind which none asks for them, aren't put into the session: they are left to the caller, in a tally.
 pub fn answer_whole<V: View, N: Notes, R: Read, W: Write, T: Threads + Wait + Sync, G: Gate>(
     runner: &Runner<'_, T, G>,
     session: &mut Session<V>,
