@@ -1,4 +1,4 @@
-use Rattle.std.proofs.Common.{rules, ◌≡◌, ◌∙◌, List, Ok, false, ap, subst, sym, to_z, of_z, w64}
+use Rattle.std.proofs.Common.{rules, ◌≡◌, ◌∙◌, List, Ok, false, ap, subst, to_z, of_z, w64}
 use Rattle.linked_program.specs.declared.code.Link.{Link}
 use Rattle.linked_program.specs.CodeView.{beginning, chained}
 use Rattle.evaluation.specs.Values.{value_at}
