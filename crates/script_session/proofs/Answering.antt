@@ -63,7 +63,7 @@ module _ (s now : Standing) (k : ℕ) (items : List Command) (stands : now ≡ l
   all_left_by h = stands ∙ ap (λ xs. left_by_commands s (map said xs)) (take_all k items h)
 
   pub first_left : IsLeftByFirst s now (map said items)
-  first_left = (map said (take k items), map said (drop k items), sym (map-append (take k items) (drop k items)) ∙ ap (map said) (take-append-drop k items), stands)
+  first_left = (map said (take k items), map said (drop k items), sym (map-append said (take k items) (drop k items)) ∙ ap (map said) (take-append-drop k items), stands)
 
   -- and then behind one more
   pub one_more_left : (t : Standing) (command : Command) → k < length items → command ≡ get_or items k command → t ≡ standing_after now (said command)
@@ -72,7 +72,7 @@ module _ (s now : Standing) (k : ℕ) (items : List Command) (stands : now ≡ l
       let d = get_or items k command in
       left ∙ ap (standing_after now) (ap said at) ∙ ap (λ u. standing_after u (said d)) stands
       ∙ sym (left_by-append s (map said (take k items)) (said d ∷ []))
-      ∙ ap (left_by_commands s) (sym (map-append (take k items) (d ∷ [])))
+      ∙ ap (left_by_commands s) (sym (map-append said (take k items) (d ∷ [])))
       ∙ ap (λ xs. left_by_commands s (map said xs)) (sym (take_more items k command h))
 
 -- so it does where the next command may have been answered
