@@ -324,7 +324,7 @@ class Proofs(unittest.TestCase):
     def test_a_run_that_is_ended_while_it_tries_edits_leaves_their_modules_to_the_next(self):
         self.proof("toy")
         code = "import os, sys; from proved_modules import ProvedModules; m = ProvedModules(*sys.argv[1:3], ['toy']); m.__enter__(); to = sys.argv[3]\n"
-        code += "while not m.give('toy', to): pass\nos._exit(9)"
+        code += "while not os.path.exists(m.room + '/toy/toy.oantt'): pass\nm.give('toy', to)\nos._exit(9)"
         words = [sys.executable, "-c", code, self.top, f"{self.top}/kit", tempfile.mkdtemp()]
         subprocess.run(words, cwd=os.path.dirname(os.path.realpath(__file__)), env={**os.environ, "TMPDIR": tempfile.gettempdir()}, check=False)
         with ProvedModules(f"{self.top}/elsewhere", f"{self.top}/kit", ["toy"]) as modules:
