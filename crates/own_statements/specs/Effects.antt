@@ -71,6 +71,7 @@ abbrev pub IsEffect : List Kind → (ℕ → Acts) → Tables → List Slot → 
 IsEffect kinds inner ts slots l act effect.Other = Unit {0}
 IsEffect kinds inner ts slots l act effect.Sync = act ≡ syncs
 IsEffect kinds inner ts slots l act effect.Later = Unit {0}
+IsEffect kinds inner ts slots l act (effect.One r v) = HasTarget kinds inner ts slots l act (value.Found v) (target.Update r)
 IsEffect kinds inner ts slots l act (effect.Two r v w) = UpdatesBy kinds ts slots act r (v ∷ w ∷ [])
 IsEffect kinds inner ts slots l act (effect.Value w t) = HasTarget kinds inner ts slots l act w t
 

@@ -32,12 +32,14 @@ pub enum Value<'a> {
 }
 
 /// What a statement comes to: it is none that an instance does by itself; it is a sync; it is done with all that it reads; it updates a
-/// reducer by two numbers; or something is done with a value.
+/// reducer by one number, or by two; or something is done with a value. An update by a number that is known at once stands by itself, so
+/// that LLVM sees how often it is done, and compiles the view's call into the loop over statements.
 #[derive(Clone, Copy)]
 pub enum Effect<'a> {
     Other,
     Sync,
     Later,
+    One(usize, i64),
     Two(usize, i64, i64),
     Value(Value<'a>, Target),
 }
@@ -56,12 +58,8 @@ pub(crate) fn effect_of<'a, V: View>(
 {
     match &instruction.short {
         ShortForm::Other => effect_of_operation(&instruction.operation),
-        ShortForm::UpdateSlot(reducer, slot) => {
-            Effect::Value(of_slot(*slot, slots), Target::Update(*reducer))
-        }
-        ShortForm::UpdateNumber(reducer, number) => {
-            Effect::Value(Value::Found(*number), Target::Update(*reducer))
-        }
+        ShortForm::UpdateSlot(reducer, slot) => Effect::One(*reducer, number_in(slots, *slot)),
+        ShortForm::UpdateNumber(reducer, number) => Effect::One(*reducer, *number),
         ShortForm::UpdateSlots(reducer, first, second) => {
             let second = number_in(slots, *second);
             Effect::Two(*reducer, number_in(slots, *first), second)

@@ -80,6 +80,7 @@ pub(crate) fn perform<V: View>(
         Effect::Other => Did::Nothing,
         Effect::Sync => pass_sync(layer, passes_syncs, position, top),
         Effect::Later => evaluate(layer, setting, here, &instruction.operation, top, numbers),
+        Effect::One(reducer, number) => update_one(layer, setting, here, reducer, number),
         Effect::Two(reducer, first, second) => {
             update_two(layer, setting, here, reducer, first, second)
         }

@@ -1,13 +1,17 @@
-use Rattle.std.proofs.Common.{rules, ◌≡◌, ◌∙◌, ℤ, List, [], ◌∷◌, ap, map, slice_get, sym, subst, to_z, of_z, w64}
+use Rattle.std.proofs.Common.{rules, ◌≡◌, ◌∙◌, ℤ, List, [], ◌∷◌, ap, map, slice_get, refl, sym, subst, to_z, of_z, w64}
+use Rattle.linked_program.specs.declared.code.Target.TheVariants as target
 use Rattle.linked_program.specs.CodeView.{act, expression}
 use Rattle.evaluation.specs.declared.slot.Slot.{Slot}
 use Rattle.evaluation.specs.Values.{pure, value_at, values_at}
 use Rattle.positions.specs.Advance.{combining, evaluated, performed}
 use Rattle.activations.specs.Given.{lent}
-use Rattle.own_statements.specs.Effects.{HasValue}
+use Rattle.own_statements.specs.Effects.{HasValue, goes_on}
 use Rattle.own_statements.specs.Fills.{Fills}
 use Rattle.own_statements.proofs.Shorts.{numbered, comes, short_sync, short_update, short_value}
 use Rattle.own_statements.proofs.statements.perform.Goals as goal
+
+pub update_one-requires-clause-takes : goal.update_one-requires-clause-takes
+update_one-requires-clause-takes g c κs within = (c.in-One.ensures.effect (lent c.args.setting).kinds numbered (c.requires.short numbered)).3
 
 pub put-requires-clause-takes : goal.put-requires-clause-takes
 put-requires-clause-takes g c κs within = (c.in-Value.ensures.effect (lent c.args.setting).kinds numbered (c.requires.short numbered)).3
@@ -26,6 +30,27 @@ returns-in-Sync-clause-done g c =
     let is = c.in-Sync.ensures.effect S.kinds numbered (c.requires.short numbered) in
     comes S passes p (λ kit. performed S kit p i.number i.operation) a l c.pass_sync.result c.pass_sync.new.top c.pass_sync.new.layer
     (short_sync S passes p i.number a l c.pass_sync.result c.pass_sync.new.top c.pass_sync.new.layer i.operation is c.pass_sync.ensures.done)
+
+pub returns-in-One-clause-done : goal.returns-in-One-clause-done
+returns-in-One-clause-done g c =
+    let S = lent c.args.setting in
+    let passes = c.args.passes_syncs in
+    let i = c.args.instruction.now in
+    let n = i.number in
+    let p = c.args.position in
+    let a = c.args.top.now in
+    let l = c.args.layer.now in
+    let r = c.in-One.reducer in
+    let says = c.in-One.ensures.effect S.kinds numbered (c.requires.short numbered) in
+    let w = c.in-One.number in
+    let v = to_z w64 (of_z w64 w) in
+    let same : w ≡ v = search rules in
+    let found : Fills (value_at S.tables a.slots says.0) v l l =
+    subst (λ (x : ℤ). Fills (value_at S.tables a.slots says.0) x l l) same
+    (subst (λ (ss : List Slot). (x : ℤ) → x ≡ w → Fills (value_at S.tables ss says.0) x l l) c.slots.ensures.slots says.2 w refl) in
+    short_value S passes p n a l c.update_one.result a c.update_one.new.layer i.operation (target.Update r) says.0 says.1
+    (comes S passes p (λ kit. evaluated n (value_at S.tables a.slots says.0) (goes_on S.kinds n p (target.Update r))) a l c.update_one.result a c.update_one.new.layer
+    (c.update_one.ensures.done a (value_at S.tables a.slots says.0) found))
 
 pub returns-in-Two-clause-done : goal.returns-in-Two-clause-done
 returns-in-Two-clause-done g c =
