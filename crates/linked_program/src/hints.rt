@@ -50,6 +50,7 @@ fn hints(codes: &[Code], seen: &mut Vec<Option<u32>>, number: usize) -> Hints {
         None => NO_HINTS,
     }
 }
+
 /// Whether no statement spawns an instance, loops or reads a reducer.
 fn stay_beside(blocks: &[CodeBlock]) -> bool {
     for block in blocks {

@@ -141,26 +141,26 @@ fn chain_form(alloc: Global, value: &Expression, target: Target) -> Result<Short
     ensures form { IfOk result (λ made. (kinds : List AnyKind) (inner : ℕ → Acts) → TakesOne kinds target
         → IsFormOf kinds inner made (act_for inner (plain value.now) target)) }
 {
-    match chain(alloc, value)? {
+    match chain(alloc, value, 0)? {
         Some(chain) => Ok(ShortForm::Chain(target, chain)),
         None => Ok(ShortForm::Other),
     }
 }
 
-// An expression as a chain, where it is one.
+// An expression as a chain with room for so many links more, where it is one.
 #[cycle(chain)]
-fn chain(alloc: Global, expression: &Expression) -> Result<Option<Chain>, AllocError>
+fn chain(alloc: Global, expression: &Expression, more: usize) -> Result<Option<Chain>, AllocError>
     ensures chain { IfOk result (λ made. IfSome made (λ c. plain expression.now ≡ chain_of c)) }
 {
     match expression {
         Expression::Binary(operator, left, right) => match right_link(*operator, right) {
-            Some(link) => longer(chain(alloc, left), link),
+            Some(link) => longer(chain(alloc, left, more.saturating_add(1)), link),
             None => match left_link(*operator, left) {
-                Some(link) => longer(chain(alloc, right), link),
+                Some(link) => longer(chain(alloc, right, more.saturating_add(1)), link),
                 None => Ok(None),
             },
         },
-        _ => begun(alloc, expression),
+        _ => begun(alloc, expression, more),
     }
 }
 
@@ -214,43 +214,47 @@ fn longer(made: Result<Option<Chain>, AllocError>, link: Link) -> Result<Option<
     }
 }
 
-// An expression without operators within one another as a chain, where it is one.
-fn begun(alloc: Global, expression: &Expression) -> Result<Option<Chain>, AllocError>
+// The same of an expression without operators within one another.
+fn begun(alloc: Global, expression: &Expression, more: usize) -> Result<Option<Chain>, AllocError>
     ensures chain { IfOk result (λ made. IfSome made (λ c. plain expression.now ≡ chain_of c)) }
 {
     match expression {
         Expression::Slots(operator, left, right) => {
-            begun_with(alloc, *left, Link::SlotRight(*operator, *right))
+            begun_with(alloc, *left, Link::SlotRight(*operator, *right), more)
         }
         Expression::SlotAndNumber(operator, left, right) => {
-            begun_with(alloc, *left, number_link(*operator, *right))
+            begun_with(alloc, *left, number_link(*operator, *right), more)
         }
         Expression::NumberAndSlot(operator, left, right) => {
-            begun_with(alloc, *right, Link::NumberLeft(*operator, *left))
+            begun_with(alloc, *right, Link::NumberLeft(*operator, *left), more)
         }
         Expression::SlotCell(table, slot, column) => {
-            Ok(Some(alone(alloc, Start::Cell(*table, *slot, *column))))
+            alone(alloc, Start::Cell(*table, *slot, *column), more)
         }
-        Expression::OnRow(operator, cells) => {
-            Ok(Some(alone(alloc, Start::OnRow(*operator, *cells))))
-        }
+        Expression::OnRow(operator, cells) => alone(alloc, Start::OnRow(*operator, *cells), more),
         _ => Ok(None),
     }
 }
 
-// A chain of one link on a slot.
-fn begun_with(alloc: Global, slot: usize, link: Link) -> Result<Option<Chain>, AllocError>
+// A chain of one link on a slot, with room for so many more.
+fn begun_with(
+    alloc: Global,
+    slot: usize,
+    link: Link,
+    more: usize,
+) -> Result<Option<Chain>, AllocError>
     ensures chain { IfOk result (λ made. IfSome made (λ c. linked_by (slot_of slot) link ≡ chain_of c)) }
 {
-    longer(Ok(Some(alone(alloc, Start::Slot(slot)))), link)
+    longer(
+        alone(alloc, Start::Slot(slot), more.saturating_add(1)),
+        link,
+    )
 }
 
-// A chain without links.
-fn alone(alloc: Global, start: Start) -> Chain
-    ensures chain { beginning start ≡ chain_of result }
+// A chain without links, with room for so many.
+fn alone(alloc: Global, start: Start, more: usize) -> Result<Option<Chain>, AllocError>
+    ensures chain { IfOk result (λ made. IfSome made (λ c. beginning start ≡ chain_of c)) }
 {
-    Chain {
-        start,
-        links: Vec::new(alloc),
-    }
+    let links = Vec::with_capacity(alloc, more)?;
+    Ok(Some(Chain { start, links }))
 }

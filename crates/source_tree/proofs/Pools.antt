@@ -48,7 +48,3 @@ module _ (places : Name → Option ℕ) (y : Name) (n : ℕ) (x : Name) where
             ] in
             rw (f, q) (sym (same (places x)))
       ]
-
-pub copied_some : {A B : Type 0} (f : A → B) (o : Option A) → is_some (option_map f o) ≡ is_some o
-copied_some f None = refl
-copied_some f (Some x) = refl

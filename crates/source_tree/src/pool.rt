@@ -1,6 +1,6 @@
 //! The names of a procedure's variables, each numbered by its first place.
 
-ghost use Rattle.std.specs.Prelude.{◌≡◌, ℕ, List, OnOk, OnErr};
+ghost use Rattle.std.specs.Prelude.{◌≡◌, ℕ, List, None, OnOk, OnErr};
 ghost use Rattle.std.specs.BTreeMap.{get_by_text};
 ghost use Rattle.source_tree.specs.Lowering.{with_index};
 
@@ -28,6 +28,22 @@ impl Model for Pool {
     ghost invariant = { λ p. (x : List ℕ) → get_by_text p.places x ≡ found_index x (texts p.names.items) };
 }
 
+/// Keeps the place of a name that has none, unless memory runs out.
+fn keep_new(
+    alloc: Global,
+    places: &mut BTreeMap<String, usize>,
+    name: &str,
+    place: usize,
+) -> Result<(), AllocError>
+    requires { get_by_text places.old name.now ≡ None }
+    ensures indexed { OnOk result ((x : List ℕ) → get_by_text places.new x ≡ with_index (λ y. get_by_text places.old y) name.now place x) }
+    ensures same { OnErr result ((x : List ℕ) → get_by_text places.new x ≡ get_by_text places.old x) }
+{
+    let key = String::from_str(alloc, name)?;
+    places.insert(key, place)?;
+    Ok(())
+}
+
 /// Keeps the place of a name, unless it has one or memory runs out.
 fn keep(
     alloc: Global,
@@ -38,16 +54,14 @@ fn keep(
     ensures indexed { OnOk result ((x : List ℕ) → get_by_text places.new x ≡ with_index (λ y. get_by_text places.old y) name.now place x) }
     ensures same { OnErr result ((x : List ℕ) → get_by_text places.new x ≡ get_by_text places.old x) }
 {
-    if places.get(name).is_some() {
-        return Ok(());
+    match places.get(name) {
+        Some(_) => Ok(()),
+        None => keep_new(alloc, places, name, place),
     }
-    let key = String::from_str(alloc, name)?;
-    places.insert(key, place)?;
-    Ok(())
 }
 
 impl Pool {
-    ghost use Rattle.std.specs.Prelude.{◌≡◌, ◌++◌, ◌∷◌, [], IfOk, OnErr, OnOk};
+    ghost use Rattle.std.specs.Prelude.{◌≡◌, ◌++◌, ◌∷◌, [], IfOk, None, OnErr, OnOk};
     ghost use Rattle.source_tree.specs.Source.{texts};
     ghost use Rattle.source_tree.specs.Lowering.{found_index, numbered};
 
@@ -73,6 +87,19 @@ impl Pool {
         Ok(())
     }
 
+    /// Puts a new name last, unless memory runs out.
+    fn put_new(&mut self, alloc: Global, name: &str) -> Result<(), AllocError>
+        requires { found_index name.now self.old ≡ None }
+        ensures added { OnOk result (self.new ≡ self.old ++ name.now ∷ []) }
+        ensures same { OnErr result (self.new ≡ self.old) }
+    {
+        self.names.reserve(1)?;
+        let stored = String::from_str(alloc, name)?;
+        keep_new(alloc, &mut self.places, name, self.names.len())?;
+        self.names.push(stored).unwrap();
+        Ok(())
+    }
+
     /// The number of a name, which is put last where it is new.
     pub(crate) fn number_of(&mut self, alloc: Global, name: &str) -> Result<usize, AllocError>
         ensures number { IfOk result (λ n. (self.new, n) ≡ numbered self.old name.now) }
@@ -82,7 +109,7 @@ impl Pool {
             return Ok(*number);
         }
         let number = self.names.len();
-        self.put(alloc, name)?;
+        self.put_new(alloc, name)?;
         Ok(number)
     }
 
