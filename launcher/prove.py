@@ -7,11 +7,12 @@ of crates with edits, which wait for them. And a proof keeps the processors that
 since each is reckoned to take the memory that the first one does. Here each proof of the longest chain, and of those that are
 nearly as long, gets two where there are four processors and memory holds them: the second shares what the first has loaded. It gets
 up to four where no other task would wait for these: such a proof is at work alone for minutes, since all that is left waits for it,
-and four jobs take no more of the processors than two for the same work. All else stands back and gets what these proofs leave of the
-processors: beside equals they have half of one for each job. A program comes before the tests that are ready by then,
-which would go first, being longer: its sessions and figures wait for it. Must-fail edits are tried together, over what the crate's
-proof has checked (launcher/together.py). What is below a crate is found once, which rt finds anew at each look, a minute and a half in
-all before its first proof. And by a signal it is asked to end once what is at work has ended, for a run in another folder (launcher/handover.py).
+and four jobs take no more of the processors than two for the same work. All else stands back, the further the less work its
+longest chain has, and gets what these proofs leave of the processors: beside equals they have half of one for each job. A program
+comes before the tests that are ready by then, which would go first, being longer: its sessions and figures wait for it. Must-fail
+edits are tried together, over what the crate's proof has checked (launcher/together.py). What is below a crate is found once, which
+rt finds anew at each look, a minute and a half in all before its first proof. And by a signal it is asked to end once what is at work
+has ended, for a run in another folder (launcher/handover.py).
 Where rt's files are made otherwise than this knows of, this is `rt ci` and no more.
 """
 import contextlib
@@ -33,8 +34,9 @@ from proved_modules import ProvedModules  # noqa: E402
 FIRST, FURTHER = 3_500_000_000, 1_000_000_000
 # What part of the longest chain's work makes another one long.
 LONG = 0.85
-# How far behind such a chain all others stand, as `nice` counts it.
-BEHIND = 10
+# How far behind such a chain all others stand at most, as `nice` counts it, and how far for each part of the longest chain's work that a chain
+# lacks to be long: what a long one waits for soon would come too late if it stood as far behind as what nobody waits for.
+BEHIND, LACKING = 10, 60
 # How many jobs a proof of a long chain has at most beside other tasks, for how many processors it has each, and how many it has at most
 # where no other task would wait.
 BESIDE, EACH, MOST = 2, 2, 4
@@ -86,8 +88,8 @@ def kind_of(name):
     return name[1]
 
 
-def on_long_chains(tasks):
-    """The proofs and tests of chains with nearly as much as the longest one's work; each task comes after those that it waits for."""
+def parts_of_longest(tasks):
+    """What part of the longest chain's work the longest one through each task has; each task comes after those that it waits for."""
     ahead, behind = {}, {}
     for name, (before, work, *_) in tasks.items():
         ahead[name] = work + max((ahead[other] for other in before), default=0)
@@ -96,9 +98,18 @@ def on_long_chains(tasks):
         behind[name] = work + behind.get(name, 0)
         for other in before:
             behind[other] = max(behind.get(other, 0), behind[name])
-    longest = max(behind.values(), default=0)
-    long = {name for name, (_, work, *_) in tasks.items() if ahead[name] + behind[name] - work >= LONG * longest}
-    return {name for name in long if kind_of(name) in ("proof", "tests")}
+    longest = max(behind.values(), default=0) or 1
+    return {name: (ahead[name] + behind[name] - work) / longest for name, (_, work, *_) in tasks.items()}
+
+
+def on_long_chains(parts):
+    """The proofs and tests of chains with nearly as much as the longest one's work, by what part of it each has."""
+    return {name for name, part in parts.items() if part >= LONG and kind_of(name) in ("proof", "tests")}
+
+
+def niceness_of(part):
+    """How far a task of no long chain stands back whose longest chain has that part of the longest one's work; edits do so all the way."""
+    return BEHIND if part >= LONG else min(BEHIND, round((LONG - part) * LACKING))
 
 
 def part_of_each(rt, tasks, chains, given):
@@ -129,26 +140,29 @@ def with_jobs(rt, tasks, chains):
     return {name: (*task, call_of(call) if name in chains else call) for name, (*task, call) in tasks.items()}
 
 
-def stand_back():
-    """Has this thread, and all processes that it starts from now on, stand behind the others. There is no way back for it."""
+def stand_back(niceness):
+    """Has this thread, and all processes that it starts from now on, stand so far behind the others. There is no way back for it."""
     with contextlib.suppress(OSError):
         own = threading.get_native_id()
-        os.setpriority(os.PRIO_PROCESS, own, min(os.getpriority(os.PRIO_PROCESS, own) + BEHIND, 19))
+        os.setpriority(os.PRIO_PROCESS, own, min(os.getpriority(os.PRIO_PROCESS, own) + niceness, 19))
 
 
-def standing_back(call):
-    """The call, by a thread of its own that stands back."""
+def standing_back(call, niceness):
+    """The call, by a thread of its own that stands so far back."""
 
     def run(given, jobs):
-        with ThreadPoolExecutor(1, initializer=stand_back) as thread:
+        with ThreadPoolExecutor(1, initializer=stand_back, initargs=(niceness,)) as thread:
             return thread.submit(call, given, jobs).result()
 
     return run
 
 
-def with_others_behind(tasks, chains):
-    """The tasks, where those of no such chain stand back."""
-    return {name: (*task, call if name in chains else standing_back(call)) for name, (*task, call) in tasks.items()}
+def with_others_behind(tasks, chains, parts):
+    """The tasks, where those of no such chain stand back, by what part of the longest one's work theirs have."""
+    return {
+        name: (*task, call if name in chains else standing_back(call, niceness_of(parts.get(name, 0))))
+        for name, (*task, call) in tasks.items()
+    }
 
 
 def is_program(crate):
@@ -177,8 +191,9 @@ def work_first(rt, in_lanes):
     def run(tasks):
         behind = without_work(tasks)
         left = {name: task for name, task in tasks.items() if name not in behind}
-        chains = on_long_chains(left)
-        given = in_lanes(with_others_behind(with_jobs(rt, together.behind_proofs(programs_first(left)), chains), chains))
+        parts = parts_of_longest(left)
+        chains = on_long_chains(parts)
+        given = in_lanes(with_others_behind(with_jobs(rt, together.behind_proofs(programs_first(left)), chains), chains, parts))
         for name in behind:
             *_, call = tasks[name]
             given[name] = call(given, 1)
