@@ -1,3 +1,4 @@
+pub mod Packed
 pub mod Pools
 pub mod Counting
 pub mod Laying

@@ -4,6 +4,7 @@
 mod laws;
 mod layout;
 mod lowering;
+mod places;
 mod pool;
 mod source;
 mod terms;

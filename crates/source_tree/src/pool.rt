@@ -1,63 +1,27 @@
 //! The names of a procedure's variables, each numbered by its first place.
 
-ghost use Rattle.std.specs.Prelude.{◌≡◌, ℕ, List, None, OnOk, OnErr};
-ghost use Rattle.std.specs.BTreeMap.{get_by_text};
-ghost use Rattle.source_tree.specs.Lowering.{with_index};
-
+use crate::places::Places;
 use std::alloc::{AllocError, Global};
-use std::collections::BTreeMap;
 use std::marker::Model;
 
 /// A pool of names: the parameters as they are written, and then each further name once.
 #[derive(Drop)]
 pub struct Pool {
     names: Vec<String>,
-    places: BTreeMap<String, usize>,
+    places: Places,
 }
 
 impl Model for Pool {
     ghost use Rattle.std.specs.Prelude.{◌≡◌, ℕ, List};
-    ghost use Rattle.std.specs.BTreeMap.{get_by_text};
     ghost use Rattle.source_tree.specs.Source.{texts};
     ghost use Rattle.source_tree.specs.Lowering.{found_index};
+    ghost use Rattle.source_tree.specs.Packing.{place_in};
 
     ghost Value = { List (List ℕ) };
 
     ghost view = { λ p. texts p.names.items };
 
-    ghost invariant = { λ p. (x : List ℕ) → get_by_text p.places x ≡ found_index x (texts p.names.items) };
-}
-
-/// Keeps the place of a name that has none, unless memory runs out.
-fn keep_new(
-    alloc: Global,
-    places: &mut BTreeMap<String, usize>,
-    name: &str,
-    place: usize,
-) -> Result<(), AllocError>
-    requires { get_by_text places.old name.now ≡ None }
-    ensures indexed { OnOk result ((x : List ℕ) → get_by_text places.new x ≡ with_index (λ y. get_by_text places.old y) name.now place x) }
-    ensures same { OnErr result ((x : List ℕ) → get_by_text places.new x ≡ get_by_text places.old x) }
-{
-    let key = String::from_str(alloc, name)?;
-    places.insert(key, place)?;
-    Ok(())
-}
-
-/// Keeps the place of a name, unless it has one or memory runs out.
-fn keep(
-    alloc: Global,
-    places: &mut BTreeMap<String, usize>,
-    name: &str,
-    place: usize,
-) -> Result<(), AllocError>
-    ensures indexed { OnOk result ((x : List ℕ) → get_by_text places.new x ≡ with_index (λ y. get_by_text places.old y) name.now place x) }
-    ensures same { OnErr result ((x : List ℕ) → get_by_text places.new x ≡ get_by_text places.old x) }
-{
-    match places.get(name) {
-        Some(_) => Ok(()),
-        None => keep_new(alloc, places, name, place),
-    }
+    ghost invariant = { λ p. (x : List ℕ) → place_in p.places x ≡ found_index x (texts p.names.items) };
 }
 
 impl Pool {
@@ -71,7 +35,7 @@ impl Pool {
     {
         Pool {
             names: Vec::new(alloc),
-            places: BTreeMap::new(alloc),
+            places: Places::new(alloc),
         }
     }
 
@@ -82,7 +46,7 @@ impl Pool {
     {
         self.names.reserve(1)?;
         let stored = String::from_str(alloc, name)?;
-        keep(alloc, &mut self.places, name, self.names.len())?;
+        self.places.keep(alloc, name, self.names.len())?;
         self.names.push(stored).unwrap();
         Ok(())
     }
@@ -95,7 +59,7 @@ impl Pool {
     {
         self.names.reserve(1)?;
         let stored = String::from_str(alloc, name)?;
-        keep_new(alloc, &mut self.places, name, self.names.len())?;
+        self.places.keep_new(alloc, name, self.names.len())?;
         self.names.push(stored).unwrap();
         Ok(())
     }
@@ -105,8 +69,8 @@ impl Pool {
         ensures number { IfOk result (λ n. (self.new, n) ≡ numbered self.old name.now) }
         ensures same { OnErr result (self.new ≡ self.old) }
     {
-        if let Some(number) = self.places.get(name) {
-            return Ok(*number);
+        if let Some(number) = self.places.place_of(name) {
+            return Ok(number);
         }
         let number = self.names.len();
         self.put_new(alloc, name)?;
