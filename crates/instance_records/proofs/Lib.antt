@@ -8,6 +8,7 @@ pub mod Among
 pub mod Parts
 pub mod Joined
 pub mod Sharing
+pub mod Entered
 pub mod Runs
 pub mod Together
 pub mod Sums

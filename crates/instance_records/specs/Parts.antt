@@ -1,5 +1,6 @@
 -- The parts of a record that lie in few bytes.
 use Rattle.std.specs.Prelude.{ℕ, ℤ, List, [], ◌∷◌}
+use Rattle.std.specs.Arc.{arc_value}
 use Rattle.instance_records.specs.declared.arguments.Arguments.{Arguments}
 use Rattle.instance_records.specs.declared.arguments.Arguments.TheVariants as a
 use Rattle.instance_records.specs.declared.called.Called.{Called}
@@ -32,5 +33,5 @@ height_of (c.Several height items) = height
 abbrev pub entries_in : Entries → List (ℕ × ℕ)
 entries_in e.Nothing = []
 entries_in (e.One entry) = entry ∷ []
-entries_in (e.Two pair) = pair.value
+entries_in (e.Two pair) = arc_value pair
 entries_in (e.Several entries) = entries.value.items

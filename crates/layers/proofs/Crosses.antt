@@ -5,6 +5,7 @@ use Rattle.std.proofs.Crossing.{crosses}
 use Rattle.evaluation.proofs.notes.Notes.TheSendSync as notes
 use Rattle.hypermaps.proofs.Hypermap.TheSendSync as hypermaps
 use Rattle.instance_records.proofs.arguments.Arguments.TheSendSync as arguments
+use Rattle.instance_records.proofs.entries.Entries.TheSendSync as entries
 use Rattle.instance_records.proofs.Sharing.{readings_send, record_send}
 use Rattle.view_pool.specs.declared.view.View as View
 use Rattle.layers.proofs.recording.Opened.TheSendSync as openings
@@ -13,7 +14,7 @@ use Rattle.layers.specs.contracts.spares.SpareLists as SpareLists
 use Rattle.layers.specs.contracts.tally.Tally as Tally
 
 pub tally_send : IsSend (Tally.the_field).row
-tally_send = let r = record_send in search (sendable, crosses, openings.the_send, arguments.the_send) depth 20
+tally_send = let r = record_send in search (sendable, crosses, openings.the_send, arguments.the_send, entries.the_field_send) depth 20
 
 pub lists_send : IsSend (SpareLists.the_field).row
 lists_send = search (sendable, crosses, notes.the_send) depth 20

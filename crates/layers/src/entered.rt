@@ -12,25 +12,36 @@ use std::alloc::{AllocError, Global};
 use view_pool::View;
 
 impl<V: View> Layer<V> {
-    /// The numbers of the procedures that were entered, each with its revision number.
+    /// The numbers of the procedures that were entered, each with its revision number. A list of two is shared with the last one of two, where
+    /// they are the same, and is the last one from then on.
     #[inline(always)]
-    pub(crate) fn entries(&self, alloc: Global, program: &Checked) -> Result<Entries, AllocError>
+    pub(crate) fn entries(
+        &self,
+        alloc: Global,
+        program: &Checked,
+        last: &mut Entries,
+    ) -> Result<Entries, AllocError>
         ensures entries { IfOk result (λ es.
             entries_in es ≡ entries_from 0 program.now.revisions self.now.entered) }
     {
-        entries(alloc, &self.entered, program)
+        entries(alloc, &self.entered, program, last)
     }
 }
 
 /// The numbers of the procedures whose flags are up, each with its revision number. That of the only one is put into its list at once.
 #[inline(always)]
-fn entries(alloc: Global, flags: &[bool], program: &Checked) -> Result<Entries, AllocError>
+fn entries(
+    alloc: Global,
+    flags: &[bool],
+    program: &Checked,
+    last: &mut Entries,
+) -> Result<Entries, AllocError>
     ensures entries { IfOk result (λ es.
         entries_in es ≡ entries_from 0 program.now.revisions flags.now) }
 {
     match only_up(flags) {
         Some(procedure) => Ok(entry_of_one(procedure, program)),
-        None => entries_of_all(alloc, flags, program),
+        None => entries_of_all(alloc, flags, program, last),
     }
 }
 
@@ -64,14 +75,38 @@ fn entry_of_one(procedure: usize, program: &Checked) -> Entries
 
 /// The numbers of the procedures whose flags are up, however many, each with its revision number.
 #[inline(never)]
-fn entries_of_all(alloc: Global, flags: &[bool], program: &Checked) -> Result<Entries, AllocError>
+fn entries_of_all(
+    alloc: Global,
+    flags: &[bool],
+    program: &Checked,
+    last: &mut Entries,
+) -> Result<Entries, AllocError>
     ensures entries { IfOk result (λ es.
         entries_in es ≡ entries_from 0 program.now.revisions flags.now) }
 {
     if let Some(pair) = pair_up(flags, program) {
-        return Entries::from_slice(alloc, &pair);
+        return entries_of_two(alloc, &pair, last);
     }
     entries_of_many(alloc, flags, program)
+}
+
+/// A list of these two entries: a second owner of the last one where that is the same, else it is the last one from then on.
+#[inline(always)]
+fn entries_of_two(
+    alloc: Global,
+    pair: &[(usize, u64); 2],
+    last: &mut Entries,
+) -> Result<Entries, AllocError>
+    ensures entries { IfOk result (λ es. entries_in es ≡ pair.now) }
+{
+    if let Some(entries) = last.share_two(pair) {
+        return Ok(entries);
+    }
+    let entries = Entries::from_slice(alloc, pair)?;
+    if let Some(more) = entries.share_two(pair) {
+        *last = more;
+    }
+    Ok(entries)
 }
 
 /// The numbers of the only two procedures whose flags are up, each with its revision number; none where there are more or less.

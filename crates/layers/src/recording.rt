@@ -208,12 +208,13 @@ impl<V: View> Layer<V> {
         }
     }
 
-    /// What a record keeps of the layer. Want of memory is the only error.
+    /// What a record keeps of the layer, where the last list of two procedures may be shared. Want of memory is the only error.
     #[inline(always)]
     pub(crate) fn recording(
         &self,
         alloc: Global,
         program: &Checked,
+        last: &mut Entries,
     ) -> Result<Recording, AllocError>
         requires kinds { self.now.kinds ≡ program.now.kinds }
         ensures recording { IfOk result (λ r. r ≡ recording_of program.now.revisions self.now) }
@@ -221,7 +222,7 @@ impl<V: View> Layer<V> {
     {
         let levels = self.levels()?;
         let reads = self.reads(alloc)?;
-        let entered = self.entries(alloc, program)?;
+        let entered = self.entries(alloc, program, last)?;
         let contribution = self.touched(alloc, program)?;
         Ok(Recording::new(self, program, contribution, reads, entered, levels))
     }

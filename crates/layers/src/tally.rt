@@ -14,6 +14,7 @@ use crate::layer::Layer;
 use crate::leaves::{Leaf, record_of_two};
 use crate::lone::{Lone, record_of_one};
 use crate::recording::Opened;
+use instance_records::entries::Entries;
 use instance_records::record::Record;
 use linked_program::checked::Checked;
 use list_pieces::pieces::Pieces;
@@ -21,12 +22,13 @@ use std::alloc::{AllocError, Global};
 use std::marker::Model;
 use view_pool::View;
 
-/// The memo instances whose layers are open, the topmost last; the records made; and how many instances were executed, answered
-/// by a record, and executed without a layer.
+/// The memo instances whose layers are open, the topmost last; the records made; the last list of two procedures that was made for one, which
+/// those behind it share; and how many instances were executed, answered by a record, and executed without a layer.
 #[derive(Drop)]
 pub struct Tally {
     opened: Vec<Opened>,
     made: Pieces<Record>,
+    last: Entries,
     executed: u64,
     reused: u64,
     unrecorded: u64,
@@ -58,6 +60,7 @@ impl Tally {
         Tally {
             opened: Vec::new(alloc),
             made: Pieces::new(alloc),
+            last: Entries::Nothing,
             executed: 0,
             reused: 0,
             unrecorded: 0,
@@ -333,7 +336,7 @@ impl Tally {
         ensures product { OnErr result (HasSameProduct below.old top.old below.new top.new) }
     {
         self.made.make_room()?;
-        let recording = top.recording(alloc, program)?;
+        let recording = top.recording(alloc, program, &mut self.last)?;
         if below.cover(top, recording.reads()).is_err() {
             let_go(recording);
             return Err(AllocError);
@@ -379,7 +382,7 @@ impl Tally {
     {
         top.of_kinds();
         self.made.make_room()?;
-        let entered = top.entries(alloc, program)?;
+        let entered = top.entries(alloc, program, &mut self.last)?;
         if below.cover_of_few(top, leaf.first, leaf.second).is_err() {
             let_go(entered);
             return Err(AllocError);
@@ -439,7 +442,7 @@ impl Tally {
             let_go(opened);
             return Ok(false);
         }
-        let Ok(entered) = top.entries(alloc, program) else {
+        let Ok(entered) = top.entries(alloc, program, &mut self.last) else {
             let_go(opened);
             return Ok(false);
         };
@@ -499,7 +502,7 @@ impl Tally {
             let_go(opened);
             return Ok(false);
         }
-        let Ok(entered) = top.entries(alloc, program) else {
+        let Ok(entered) = top.entries(alloc, program, &mut self.last) else {
             let_go(opened);
             return Ok(false);
         };
