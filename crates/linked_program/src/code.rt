@@ -126,6 +126,9 @@ pub struct Hints {
     /// Each statement is done by the instance itself, or calls a few levels of such instances that aren't recorded, so iterations may be
     /// recorded in one go.
     pub alone: bool,
+    /// The same, where a statement may also call an instance whose value is found by recursion. That may take long, so such iterations are
+    /// recorded in one go only where no other worker could take any of them.
+    pub found: bool,
     /// No statement of the body loops, spawns an instance or reads a reducer, and what it calls does all by itself, so an instance may go
     /// back without standing on the strand.
     pub back: bool,
@@ -136,6 +139,7 @@ pub(crate) const NO_HINTS: Hints = Hints {
     beside: false,
     own: false,
     alone: false,
+    found: false,
     back: false,
 };
 

@@ -13,6 +13,9 @@ const LEVELS: u32 = 7;
 // What stands for more.
 const NEVER: u32 = u32::MAX;
 
+// An instance whose value is found by recursion has so many slots at most.
+const WIDEST: usize = 8;
+
 // Calls are followed so many levels deep, as many as there are procedures.
 const FOLLOWED: u32 = 256;
 
@@ -22,11 +25,24 @@ pub(crate) fn give_hints(alloc: Global, codes: &mut Vec<Code>) -> Result<(), All
 {
     let mut seen = Vec::new(alloc);
     seen.resize(codes.len(), None)?;
+    let mut found = Vec::new(alloc);
+    found.resize(codes.len(), None)?;
+    note_own(codes.as_slice(), &mut found);
     for number in 0..codes.len() {
-        let hints = hints(codes.as_slice(), &mut seen, number);
+        let hints = hints(codes.as_slice(), &mut seen, &mut found, number);
         set_hints(codes, number, hints);
     }
     Ok(())
+}
+
+/// Notes that no levels are below the procedures whose instances aren't recorded and whose values may be found by recursion.
+fn note_own(codes: &[Code], found: &mut Vec<Option<u32>>) {
+    for number in 0..codes.len() {
+        let code = &codes[number];
+        if !code.memo && code.slots <= WIDEST && calls_itself(number, &code.blocks) {
+            note(found, number, 0);
+        }
+    }
 }
 
 /// The code of the procedure of that number gets these hints.
@@ -38,15 +54,25 @@ fn set_hints(codes: &mut Vec<Code>, number: usize, hints: Hints)
     }
 }
 
-/// The hints of the procedure of that number, where what was found of some procedures was noted.
-fn hints(codes: &[Code], seen: &mut Vec<Option<u32>>, number: usize) -> Hints {
+/// The hints of the procedure of that number, where the levels below some procedures were noted: as they are, and as they count where values
+/// are found by recursion.
+fn hints(
+    codes: &[Code],
+    seen: &mut Vec<Option<u32>>,
+    found: &mut Vec<Option<u32>>,
+    number: usize,
+) -> Hints {
     match codes.get(number) {
-        Some(code) => Hints {
-            beside: stay_beside(&code.blocks),
-            own: calls_itself(number, &code.blocks),
-            alone: levels_of(codes, seen, number, FOLLOWED) <= LEVELS,
-            back: goes_back(codes, seen, &code.blocks),
-        },
+        Some(code) => {
+            let alone = levels_of(codes, seen, number, FOLLOWED) <= LEVELS;
+            Hints {
+                beside: stay_beside(&code.blocks),
+                own: calls_itself(number, &code.blocks),
+                alone,
+                found: alone || levels_of(codes, found, number, FOLLOWED) <= LEVELS,
+                back: goes_back(codes, seen, &code.blocks),
+            }
+        }
         None => NO_HINTS,
     }
 }

@@ -15,11 +15,12 @@ use crate::recorded_half::{Half, record_half};
 use activations::code::{LoopCode, loop_code};
 use activations::setting::Setting;
 use layers::closing::send_home;
+use linked_program::checked::Checked;
 use own_statements::filling::is_counted;
 use positions::phase::Phase;
 use positions::start::Start;
 use positions::work::{Loop, Share, Work};
-use running_ahead::plain::are_recorded;
+use running_ahead::plain::{are_recorded, are_recorded_in_turn};
 use running_ahead::ready::{make_ready, put_last};
 use running_ahead::spawning::Spawning;
 use small_steps::machine::Machine;
@@ -28,6 +29,9 @@ use view_pool::{Kit, KitSource, View};
 
 // How many iterations are done in one go.
 const ITERATIONS: u32 = 1024;
+
+// How many where each may take long.
+const FEW: u32 = 64;
 
 /// Where the topmost instance is a loop's over a memo procedure: does its next iterations in one go, as far as records answer them or they do
 /// all of their statements by themselves, each of these in a layer of its own that becomes a record; those of a half only where it is
@@ -91,10 +95,10 @@ fn record_turns<V: View, K: KitSource<Kit<V>>>(
         return Ok(false);
     }
     let code = loop_code(setting.program, machine.top.procedure(), site);
-    if !are_recorded(setting.program, code.callee) {
+    if !are_recorded_in_turn(setting.program, code.callee) {
         return Ok(false);
     }
-    let Some(stretch) = stretch_of(machine, code, site, share) else {
+    let Some(stretch) = stretch_of(machine, setting.program, code, site, share) else {
         return Ok(false);
     };
     if !make_ready(machine, alloc, setting.program.slots(code.callee)) {
@@ -107,6 +111,7 @@ fn record_turns<V: View, K: KitSource<Kit<V>>>(
 #[inline(always)]
 fn stretch_of<V: View>(
     machine: &Machine<V>,
+    program: &Checked,
     code: LoopCode<'_>,
     site: Loop,
     share: Share,
@@ -125,11 +130,22 @@ fn stretch_of<V: View>(
     if begins_inside(machine) {
         return None;
     }
-    let most = share.count.min(ITERATIONS);
+    let most = share.count.min(longest(program, code.callee));
     let Some(_) = machine.top.children().checked_add(most as usize) else {
         return None;
     };
     Some(Stretch { site, share, most })
+}
+
+/// How many iterations of that procedure are done in one go at most: few where it calls one whose values are found by recursion, since
+/// nothing else is heard of meanwhile.
+#[inline(always)]
+fn longest(program: &Checked, procedure: usize) -> u32 {
+    if are_recorded(program, procedure) {
+        ITERATIONS
+    } else {
+        FEW
+    }
 }
 
 /// Whether the strand begins above the topmost instance.

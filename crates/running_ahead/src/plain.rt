@@ -12,3 +12,11 @@ pub fn are_recorded(program: &Checked, procedure: usize) -> bool
 {
     program.is_memo(procedure) && program.hints(procedure).alone
 }
+
+/// The same of iterations one after another, which no other worker could take: they may also call procedures that call themselves alone.
+#[inline(always)]
+pub fn are_recorded_in_turn(program: &Checked, procedure: usize) -> bool
+    ensures memo { result ≡ true → memo_of program.now.codes procedure ≡ true }
+{
+    program.is_memo(procedure) && program.hints(procedure).found
+}
