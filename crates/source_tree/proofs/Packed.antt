@@ -1,12 +1,11 @@
 -- No two names are packed into one number, so the places of names are those by number and those by text together.
-use Rattle.std.proofs.Common.{◌≡◌, ℕ, ◌+◌, ◌-◌, ◌*◌, ◌<◌, ◌≤◌, suc, length, drop, get_or, drop-cons, Bool, true, false, cond, ◌&&◌, ◌==◌, List, [], ◌∷◌, Option, Some, None}
-use Rattle.std.proofs.Common.{refl, sym, ap, ◌∙◌, ◌⊎◌, inl, inr, arith, nat_lt, unwrap_or}
+use Rattle.std.proofs.Common.{◌≡◌, ℕ, ◌+◌, ◌-◌, ◌*◌, ◌<◌, ◌≤◌, length, drop, get_or, drop-cons, false, cond, ◌&&◌, ◌==◌, List, [], ◌∷◌, Option, Some, None}
+use Rattle.std.proofs.Common.{refl, sym, ap, ◌∙◌, inl, inr, arith, nat_lt, unwrap_or}
 use Rattle.std.specs.Prelude.{bytes_eq}
 use Rattle.std.specs.Option.{option_map}
 use Rattle.std.proofs.lemmas.Bool.{and_parts, ltb-true, le-ltb, and_right, false_from_ne_true, cases_Bool, cases_eq, eq-eqb, ne_eqb}
 use Rattle.std.proofs.lemmas.Slice.Eq.{bytes_eq-Decides}
 use Rattle.meaning.specs.Tree.{Name}
-use Rattle.token_scanner.specs.Words.{for_some}
 use Rattle.source_tree.specs.Packing.{packed_behind, packed, placed}
 
 pub no_number : (xs : Name) (i n : ℕ) (total : Option ℕ) → i < length xs → packed_behind n (drop i xs) ≡ total → 72057594037927936 ≤ n → total ≡ None

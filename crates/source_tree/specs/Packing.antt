@@ -1,5 +1,5 @@
 -- Names as numbers, by which the short ones are found.
-use Rattle.std.specs.Prelude.{ℕ, ◌+◌, ◌-◌, ◌*◌, List, [], ◌∷◌, Option, Some, None, nat_lt, ◌&&◌, if◌then◌else◌}
+use Rattle.std.specs.Prelude.{ℕ, ◌+◌, ◌-◌, ◌*◌, [], ◌∷◌, Option, Some, None, nat_lt, ◌&&◌, if◌then◌else◌}
 use Rattle.std.specs.BTreeMap.{get, get_by_text}
 use Rattle.std.specs.Option.{option_map}
 use Rattle.std.specs.Ordering.{nat_cmp}
