@@ -32,9 +32,10 @@ proc main() {{ cilk_for r in 1 .. limit sales grain 16 : line(r); t = read total
 """
 
 
-def heavy_report():
-    steps = "".join(f"x{i} = (x{i - 1} * 1103 + 12345) % 65536; " for i in range(1, STEPS + 1))
-    return HEAVY.format(steps=steps, last=STEPS)
+def heavy_report(count=STEPS):
+    """A report of rows that take so many steps of the generator each."""
+    steps = "".join(f"x{i} = (x{i - 1} * 1103 + 12345) % 65536; " for i in range(1, count + 1))
+    return HEAVY.format(steps=steps, last=count)
 
 
 class Session:
@@ -46,17 +47,26 @@ class Session:
         self.run = subprocess.Popen(words, stdin=subprocess.PIPE, stdout=subprocess.PIPE, stderr=subprocess.DEVNULL, text=True)
         self.ask([], 0)
 
-    def ask(self, edits, runs=1):
-        """Milliseconds until the answers to edits and so many runs are there; a line that isn't one shows that the session reads again."""
-        begun = time.perf_counter()
-        self.run.stdin.write("".join(f"{edit}\n" for edit in edits) + "run\n" * runs)
+    def send(self, text):
+        self.run.stdin.write(text)
         self.run.stdin.flush()
-        for _ in range(len(edits) + self.lines * runs):
+
+    def read(self, lines):
+        for _ in range(lines):
             self.run.stdout.readline()
+
+    def settle(self):
+        """Waits until the session reads again, which the answer to a line that is no command shows."""
+        self.send("settled\n")
+        self.read(1)
+
+    def ask(self, edits, runs=1):
+        """Milliseconds until the answers to edits and so many runs are there."""
+        begun = time.perf_counter()
+        self.send("".join(f"{edit}\n" for edit in edits) + "run\n" * runs)
+        self.read(len(edits) + self.lines * runs)
         took = (time.perf_counter() - begun) * 1000
-        self.run.stdin.write("settled\n")
-        self.run.stdin.flush()
-        self.run.stdout.readline()
+        self.settle()
         return took
 
     def end(self):
