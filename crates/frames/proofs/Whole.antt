@@ -31,9 +31,6 @@ layered_at (Returning v) s h = h
 layered_at (Leaving v) s h = h
 layered_at (Broken f) s h = tt
 
-pub at_phase : (s : PlainStrand) (ph : Phase) → s.phase ≡ ph → IsWhole s → IsLayeredAt ph s
-at_phase s ph e h = subst (λ p. IsLayeredAt p s) e h.layered
-
 kinds_as : (ks cs : List Kind) (lower : List PlainLayer) → ks ≡ cs → All (λ (l : PlainLayer). l.kinds ≡ ks) lower → All (λ (l : PlainLayer). l.kinds ≡ cs) lower
 kinds_as ks cs lower e h = subst (λ zs. All (λ (l : PlainLayer). l.kinds ≡ zs) lower) e h
 

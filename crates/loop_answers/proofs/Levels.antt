@@ -10,12 +10,12 @@ use Rattle.positions.specs.declared.phase.Phase.TheVariants.{Running}
 use Rattle.positions.specs.Setting.{Setting}
 use Rattle.positions.specs.Activations.{ShareFits, at}
 use Rattle.positions.specs.Code.{loop_at}
-use Rattle.positions.specs.Strands.{PlainStrand, IsLayered, IsLayeredAt}
+use Rattle.positions.specs.Strands.{PlainStrand}
 use Rattle.positions.specs.Advance.{advanced, advanced_at, worked, halved, split, with_top, left_of, right_of}
 use Rattle.positions.specs.Moves.{inlined}
 use Rattle.answered_loops.specs.Ways.{IsNext, IsWay, here, on, as_call}
 use Rattle.answered_loops.specs.Answered.{absorbed, iteration_depth, IsInside, is_by_turns}
-use Rattle.answered_loops.proofs.Ways.{way_join, way_layered}
+use Rattle.answered_loops.proofs.Ways.{way_join}
 use Rattle.loop_answers.specs.Ahead.{IsAnsweredAhead, IsRefusedAhead}
 use Rattle.loop_answers.specs.Batches.{sums_of, instances_in, AreBatches, HasBatches, first_left}
 use Rattle.loop_answers.specs.Levels.{IsAtHalf, left_entered, right_entered}
@@ -45,11 +45,6 @@ module _ (setting : Setting) where
   -- memory was refused behind others
   pub refused_join : (s t u : PlainStrand) → IsAnsweredAhead setting s t → IsRefusedAhead setting t u → IsRefusedAhead setting s u
   refused_join s t u p q = record { between = q.between; ahead = ahead_join s t q.between p q.ahead; same = q.same }
-
-  pub layered_ahead : (s t : PlainStrand) → IsAnsweredAhead setting s t → s.phase ≡ Running → (s.phase ≡ Running → length s.tally.opened ≡ length s.lower) → t.phase ≡ Running → length t.tally.opened ≡ length t.lower
-  layered_ahead s t ahead running layered now =
-      let before : IsLayered s = subst (λ p. IsLayeredAt p s) (sym running) (layered running) in
-      subst (λ p. IsLayeredAt p t) now (way_layered setting s t ahead.way before)
 
   module _ (l : Loop) (k : ℕ) (h : Share) (s : PlainStrand) (running : s.phase ≡ Running) (there : s.top.work ≡ Halves l k h) where
     works : (kit : Bool) → advanced setting kit s ≡ halved setting.codes l k h s
@@ -97,7 +92,7 @@ module _ (setting : Setting) where
         let inside : IsInside (left_entered l k h s) = λ path long. is.inside path (inside_longer s (s.top.children + 1) path long) in
         subst (IsAtHalf setting l (k - 1) j bs) (sym (left_is l k h s is.running is.work t e same))
         (subst (λ (i : Share). IsAtHalf setting l (k - 1) i bs (left_entered l k h s)) (sym half)
-        (record { running = refl; work = refl; fits = subst (ShareFits l) half fits; layered = is.layered; inside = inside; answers = record { of_memo = is.answers.of_memo; batches = is.answers.batches } }))
+        (record { running = refl; work = refl; fits = subst (ShareFits l) half fits; inside = inside; answers = record { of_memo = is.answers.of_memo; batches = is.answers.batches } }))
 
     pub right_there : (t : PlainStrand) (n : ℕ) → ShareFits l (right_of h) → instances_in (take n bs) ≡ h.count / 2 → t ≡ right_entered l k h (take n bs) s → IsAtHalf setting l (k - 1) (right_of h) (drop n bs) t
     right_there t n fits half same =
@@ -106,7 +101,7 @@ module _ (setting : Setting) where
         let still : AreBatches setting (absorbed (iteration_depth s.top) (sums_of (take n bs)) s.layer).keeps (loop_at setting.codes s.top.procedure l) s.top.slots s.top.left l.low (h.first + h.count / 2) (drop n bs) =
         subst (λ (b : Bool). AreBatches setting b (loop_at setting.codes s.top.procedure l) s.top.slots s.top.left l.low (h.first + h.count / 2) (drop n bs)) (sym (absorbed_keeps (iteration_depth s.top) (sums_of (take n bs)) s.layer)) rest.batches in
         subst (IsAtHalf setting l (k - 1) (right_of h) (drop n bs)) (sym same)
-        (record { running = refl; work = refl; fits = fits; layered = is.layered; inside = inside; answers = record { of_memo = rest.of_memo; batches = still } })
+        (record { running = refl; work = refl; fits = fits; inside = inside; answers = record { of_memo = rest.of_memo; batches = still } })
 
   -- all but the first n of what is left behind m of them
   pub passed : (l : Loop) (k : ℕ) (h : Share) (all bs : List Batch) (m n : ℕ) (s : PlainStrand) → bs ≡ drop m all → IsAtHalf setting l k h (drop n bs) s → IsAtHalf setting l k h (drop (m + n) all) s

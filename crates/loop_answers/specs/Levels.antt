@@ -18,7 +18,6 @@ pub record IsAtHalf (setting : Setting) (l : Loop) (k : ℕ) (h : Share) (bs : L
   pub running : s.phase ≡ Running
   pub work : s.top.work ≡ Halves l k h
   pub fits : ShareFits l h
-  pub layered : length s.tally.opened ≡ length s.lower
   pub inside : IsInside s
   pub answers : HasBatches setting s.layer.keeps l s.top h.first bs
 

@@ -1,10 +1,10 @@
 //! Where the topmost instance of a strand is a loop's over a memo procedure: whether records answer its iterations, and which. And where
 //! a child is spawned, whether a record answers that.
-ghost use Rattle.std.specs.Prelude.{◌≡◌, ◌≤◌, ◌==◌, ◌||◌, nat_le, ℕ, true, false, length, All, OnErr, OnOk};
+ghost use Rattle.std.specs.Prelude.{◌≡◌, ◌≤◌, ◌==◌, ◌||◌, nat_le, ℕ, List, true, false, length, All, OnErr, OnOk};
 ghost use Rattle.monoid_laws.specs.Kinds.{AreWorths, IsMonoid};
 ghost use Rattle.record_theory.specs.Named.{HaveValues};
 ghost use Rattle.positions.specs.Activations.{ShareFits};
-ghost use Rattle.positions.specs.Tallies.{is_own};
+ghost use Rattle.positions.specs.Strands.{entry_by};
 ghost use Rattle.activations.specs.Given.{lent};
 ghost use Rattle.answered_loops.specs.Answered.{IsInside, is_by_turns};
 ghost use Rattle.loop_answers.specs.Ahead.{IsAnsweredAhead, IsSameButAnswers, IsRefusedAhead};
@@ -16,7 +16,6 @@ use crate::tried::Wanted;
 use activations::code::loop_code;
 use activations::setting::Setting;
 use activations::shares::Turns;
-use layers::tally::Tally;
 use positions::phase::Phase;
 use positions::start::Start;
 use positions::work::{Loop, Share, Work};
@@ -41,7 +40,6 @@ pub fn answer_ahead<V: View>(
     calls: bool,
     leaves: bool,
 ) -> Result<bool, AllocError>
-    requires layered { machine.old.phase ≡ Phase.Running → length machine.old.tally.opened ≡ length machine.old.lower }
     requires kinds { machine.old.layer.kinds ≡ setting.program.now.kinds }
     requires monoids { All IsMonoid setting.program.now.kinds }
     requires values { HaveValues setting.program.now.kinds setting.records.now }
@@ -89,8 +87,6 @@ fn answer_halves<V: View>(
     calls: bool,
     leaves: bool,
 ) -> Result<bool, AllocError>
-    requires layered { machine.old.phase ≡ Phase.Running → length machine.old.tally.opened ≡ length machine.old.lower }
-    requires running { machine.old.phase ≡ Phase.Running }
     requires kinds { machine.old.layer.kinds ≡ setting.program.now.kinds }
     requires monoids { All IsMonoid setting.program.now.kinds }
     requires values { HaveValues setting.program.now.kinds setting.records.now }
@@ -117,7 +113,6 @@ fn answer_next<V: View>(
     calls: bool,
     leaves: bool,
 ) -> Result<bool, AllocError>
-    requires layered { machine.old.phase ≡ Phase.Running → length machine.old.tally.opened ≡ length machine.old.lower }
     requires kinds { machine.old.layer.kinds ≡ setting.program.now.kinds }
     requires monoids { All IsMonoid setting.program.now.kinds }
     requires values { HaveValues setting.program.now.kinds setting.records.now }
@@ -151,7 +146,6 @@ fn answer_half<V: View>(
     requires fits { ShareFits turns.site turns.share }
     requires there { machine.old.top.work ≡ Work.Halves turns.site halvings turns.share }
     requires running { machine.old.phase ≡ Phase.Running }
-    requires layered { length machine.old.tally.opened ≡ length machine.old.lower }
     requires kinds { machine.old.layer.kinds ≡ setting.program.now.kinds }
     requires monoids { All IsMonoid setting.program.now.kinds }
     requires values { HaveValues setting.program.now.kinds setting.records.now }
@@ -205,7 +199,6 @@ pub(crate) fn answer_last<V: View>(
     requires fits { ShareFits site share }
     requires there { machine.old.top.work ≡ Work.Halves site halvings share }
     requires running { machine.old.phase ≡ Phase.Running }
-    requires layered { length machine.old.tally.opened ≡ length machine.old.lower }
     requires kinds { machine.old.layer.kinds ≡ setting.program.now.kinds }
     requires monoids { All IsMonoid setting.program.now.kinds }
     requires values { HaveValues setting.program.now.kinds setting.records.now }
@@ -234,7 +227,6 @@ pub(crate) fn answer_last<V: View>(
 
 /// Whether so many iterations are all of them, and the half may leave then.
 fn ends_with<V: View>(machine: &Machine<V>, count: u32, all: u32) -> bool
-    requires layered { length machine.now.tally.opened ≡ length machine.now.lower }
     ensures all { result ≡ true → count ≡ all }
     ensures inside { result ≡ true → IsInside machine.now }
 {
@@ -290,40 +282,18 @@ pub(crate) fn goes_by_turns(halvings: u32, count: u32, grain: u32) -> bool
 
 /// Whether the implicit syncs of the topmost instance, and of those above it, are passed and close no layer.
 fn is_inside<V: View>(machine: &Machine<V>) -> bool
-    requires layered { length machine.now.tally.opened ≡ length machine.now.lower }
     ensures inside { result ≡ true → IsInside machine.now }
 {
+    starts_below(machine) && !machine.tally.owns_from(machine.path.len())
+}
+
+/// Whether the strand begins below its topmost instance.
+fn starts_below<V: View>(machine: &Machine<V>) -> bool
+    ensures below { result ≡ true → (path : List ℕ) → length machine.now.path ≤ length path → entry_by machine.now.start path ≡ false }
+{
     let size = machine.path.len();
-    if !is_layer_below(machine, size) {
-        return false;
-    }
     match machine.start {
         Start::Root => true,
         Start::Behind { depth, child: _ } => depth < size,
     }
-}
-
-/// Whether the instance whose layer is the topmost open one, where one is open, has a name that is shorter than that.
-#[tactic(auto, using(crate::proofs::Opened::none_own))]
-fn is_layer_below<V: View>(machine: &Machine<V>, size: usize) -> bool
-    requires layered { length machine.now.tally.opened ≡ length machine.now.lower }
-    ensures below { result ≡ true → (n : ℕ) → size ≤ n → is_own machine.now.tally.opened n ≡ false }
-{
-    if machine.kits() == 1 {
-        return true;
-    }
-    is_own_before(&machine.tally, size)
-}
-
-/// Whether the topmost open layer is that of an instance with a name that is shorter than that.
-#[tactic(auto, using(crate::proofs::Opened::own_once))]
-fn is_own_before(tally: &Tally, size: usize) -> bool
-    ensures before { result ≡ true → (n : ℕ) → size ≤ n → is_own tally.now.opened n ≡ false }
-{
-    for behind in 0..size {
-        if tally.is_own(size - 1 - behind) {
-            return true;
-        }
-    }
-    false
 }

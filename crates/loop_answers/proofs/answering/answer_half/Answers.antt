@@ -77,7 +77,7 @@ descend-requires-clause-there g c κs within =
     let has : HasBatches S s.layer.keeps l s.top h.first c.deref-2.result.now =
     subst (HasBatches S s.layer.keeps l s.top h.first) (sym c.deref-2.ensures.value) c.in-Some.ensures.answers in
     subst (IsAtHalf S l c.args.halvings h c.deref-2.result.now) (sym back)
-    (record { running = c.requires.running; work = c.requires.there; fits = c.requires.fits; layered = c.requires.layered; inside = inside; answers = has })
+    (record { running = c.requires.running; work = c.requires.there; fits = c.requires.fits; inside = inside; answers = has })
 
 pub descend-requires-clause-kinds : goal.descend-requires-clause-kinds
 descend-requires-clause-kinds g c κs within = ap (λ (z : PlainStrand). z.layer.kinds) c.answers.ensures.unchanged ∙ c.requires.kinds

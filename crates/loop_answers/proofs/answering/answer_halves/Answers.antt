@@ -1,10 +1,6 @@
 use Rattle.activations.specs.Given.{lent}
-use Rattle.loop_answers.proofs.Levels.{ahead_join, refused_join, layered_ahead}
+use Rattle.loop_answers.proofs.Levels.{ahead_join, refused_join}
 use Rattle.loop_answers.proofs.answering.answer_halves.Goals as goal
-
-pub answer_next-requires-clause-layered : goal.answer_next-requires-clause-layered
-answer_next-requires-clause-layered g c κs within =
-    layered_ahead (lent c.args.setting) c.args.machine.now c.loop.machine c.loop.invariant.ahead c.requires.running c.requires.layered
 
 pub returns-in-Ok-false-clause-ahead : goal.returns-in-Ok-false-clause-ahead
 returns-in-Ok-false-clause-ahead g c =

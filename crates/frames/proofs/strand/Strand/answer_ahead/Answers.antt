@@ -1,21 +1,16 @@
 use Rattle.std.proofs.Common.{List, refl, ap, ◌∙◌}
 use Rattle.meaning.specs.Records.{Kept}
 use Rattle.record_theory.specs.Named.{AreKept}
-use Rattle.positions.specs.declared.phase.Phase.TheVariants.{Running}
 use Rattle.positions.specs.Setting.{IsLinked, HasItsTables, HasItsRecords, setting_with}
 use Rattle.positions.specs.Strands.{PlainStrand}
 use Rattle.answered_loops.specs.Ways.{IsWay, IsWayOf}
 use Rattle.answered_loops.proofs.Ways.{ways_of}
 use Rattle.activations.specs.Given.{setting_over}
 use Rattle.frames.proofs.Replays.{on_ok, whole_after, way_then, lower_then, kinds_then}
-use Rattle.frames.proofs.Whole.{at_phase}
 use Rattle.frames.proofs.strand.Strand.answer_ahead.Goals as goal
 
 pub invariant_of-self : goal.invariant_of-self
 invariant_of-self g c = whole_after (setting_over c.args.program.now c.args.tables.now c.args.records.now) c.answer_ahead.result c.self.inside.machine c.answer_ahead.new.machine c.answer_ahead.ensures.ahead c.answer_ahead.ensures.refused c.self.invariant
-
-pub answer_ahead-requires-clause-layered : goal.answer_ahead-requires-clause-layered
-answer_ahead-requires-clause-layered g c κs within = λ running. at_phase c.self.inside.machine Running running c.self.invariant
 
 pub returns-clause-way : goal.returns-clause-way
 returns-clause-way g c = way_then (setting_over c.args.program.now c.args.tables.now c.args.records.now) c.answer_ahead.result c.self.inside.machine c.args.self.now c.answer_ahead.new.machine c.self.view_is c.answer_ahead.ensures.ahead
