@@ -1,5 +1,5 @@
 pub mod Lists
-pub mod Calls
+pub mod Turned
 pub mod Counted
 pub mod Batches
 pub mod Replays

@@ -1,8 +1,6 @@
 -- What records that answer a loop's iterations leave of a strand.
-use Rattle.std.specs.Prelude.{◌≡◌, ℕ, zero, suc, ◌+◌, Bool, true, false, None}
-use Rattle.positions.specs.declared.work.Work.{Work}
+use Rattle.std.specs.Prelude.{◌≡◌, Bool, true, false}
 use Rattle.positions.specs.Setting.{Setting}
-use Rattle.positions.specs.Activations.{PlainActivation}
 use Rattle.positions.specs.Strands.{PlainStrand}
 use Rattle.answered_loops.specs.Ways.{IsWay}
 
@@ -28,8 +26,3 @@ pub record IsRefusedAhead (setting : Setting) (s t : PlainStrand) : Type 0 where
 abbrev pub DoneBy : Bool → Type 0 → Type 0 → Type 0
 DoneBy true done same = done
 DoneBy false done same = same
-
--- an instance that has called so many more, whose values went to no slot, with that left
-abbrev pub called_more : ℕ → Work → PlainActivation → PlainActivation
-called_more zero w a = a
-called_more (suc n) w a = record a { children = a.children + suc n; spawned = false; into = None; work = w }

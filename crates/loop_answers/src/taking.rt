@@ -2,9 +2,9 @@
 ghost use Rattle.std.specs.Prelude.{◌≡◌, ◌+◌, ◌-◌, ◌≤◌, ◌<◌, ◌^◌, length, take, All, OnErr, OnOk, IfOk, IfSome};
 ghost use Rattle.monoid_laws.specs.Kinds.{IsMonoid};
 ghost use Rattle.record_theory.specs.Sums.{arguments_of_last};
-ghost use Rattle.positions.specs.Activations.{ShareFits, WorkFits};
+ghost use Rattle.positions.specs.Activations.{ShareFits};
 ghost use Rattle.answered_loops.specs.Answered.{absorbed, answered_more, iteration_depth, turned_to, halved_to};
-ghost use Rattle.loop_answers.specs.Ahead.{called_more, DoneBy, IsSameButAnswers};
+ghost use Rattle.loop_answers.specs.Ahead.{DoneBy, IsSameButAnswers};
 ghost use Rattle.loop_answers.specs.Batches.{sums_of, SumsHaveValues, instances_in, with_batches, halves_left, first_left, last_left, turns_left};
 
 use crate::found::Found;
@@ -204,51 +204,21 @@ fn call_halves(top: &mut Activation, alloc: Global)
     requires room { top.old.children + 2 < 2 ^ 64 }
     ensures halved { top.new ≡ halved_to top.old }
 {
-    call_more(top, 2, Work::Over);
+    top.wait(true, None, Work::Over);
+    top.wait(false, None, Work::Over);
     let _ = top.take_slots(alloc);
 }
 
 /// Has a loop's instance call so many more of its iterations, with the others left one by one.
+#[tactic(auto, using(crate::proofs::Turned::turned_same))]
 fn call_turns(top: &mut Activation, site: Loop, share: Share, count: u32)
     requires room { top.old.children + count < 2 ^ 64 }
     requires fits { ShareFits site share }
     requires few { count ≤ share.count }
     ensures turned { top.new ≡ turned_to count site share top.old }
 {
-    if count == 0 {
-        top.set_work(Work::Turns(site, share));
-        return;
-    }
-    call_some_turns(top, site, share, count);
-}
-
-/// The topmost instance's loop has called so many turns more, at least one.
-#[tactic(auto, using(crate::proofs::Calls::turned_is))]
-fn call_some_turns(top: &mut Activation, site: Loop, share: Share, count: u32)
-    requires some { 0 < count }
-    requires room { top.old.children + count < 2 ^ 64 }
-    requires fits { ShareFits site share }
-    requires few { count ≤ share.count }
-    ensures turned { top.new ≡ turned_to count site share top.old }
-{
-    let rest = Share {
-        first: share.first + count,
-        count: share.count - count,
-    };
-    call_more(top, count, Work::Turns(site, rest));
-}
-
-/// Has an instance call so many more, one after another, whose values go to no slot, with that left in the end.
-fn call_more(top: &mut Activation, count: u32, work: Work)
-    requires room { top.old.children + count < 2 ^ 64 }
-    requires fits { WorkFits work }
-    ensures called { top.new ≡ called_more count work top.old }
-{
-    let mut called = 0;
-    while called < count {
-        top.wait(false, None, work);
-        called += 1;
-    }
+    top.set_work(Work::Turns(site, share));
+    top.turns(site, share, count);
 }
 
 /// How many of these batches, from the first on, answer just so many instances, where some do.
