@@ -10,6 +10,7 @@ ghost use Rattle.loop_answers.specs.Batches.{sums_of, SumsHaveValues, instances_
 use crate::found::Found;
 use activations::activation::Activation;
 use activations::shares::right_of;
+use activations::spares::Spares;
 use layers::layer::{DEEPEST, Layer};
 use layers::tally::Tally;
 use positions::phase::Phase;
@@ -35,7 +36,7 @@ pub(crate) fn end_halves<V: View>(
         return Ok(false);
     }
     take_answers(machine, alloc, found)?;
-    call_halves(&mut machine.top, alloc);
+    call_halves(&mut machine.top, &mut machine.spares, alloc);
     machine.phase = Phase::Leaving(0);
     Ok(true)
 }
@@ -199,14 +200,15 @@ fn keep_last(arguments: &mut Vec<i64>, found: &[Batch<'_>]) -> Result<(), AllocE
     Ok(())
 }
 
-/// Has a loop's instance call both its halves; the second has its slots.
-fn call_halves(top: &mut Activation, alloc: Global)
+/// Has a loop's instance call both its halves. The second had its slots, and is over: their list is kept.
+fn call_halves(top: &mut Activation, spares: &mut Spares, alloc: Global)
     requires room { top.old.children + 2 < 2 ^ 64 }
     ensures halved { top.new ≡ halved_to top.old }
 {
+    let slots = top.take_slots(alloc);
+    spares.keep(Activation::new(0, slots, Vec::new(alloc), Work::Over, 0));
     top.wait(true, None, Work::Over);
     top.wait(false, None, Work::Over);
-    let _ = top.take_slots(alloc);
 }
 
 /// Has a loop's instance call so many more of its iterations, with the others left one by one.
