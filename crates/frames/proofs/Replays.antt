@@ -1,5 +1,5 @@
 -- Iterations of a loop that records answer, in one go: what the type of a strand keeps, and what a call came to.
-use Rattle.std.proofs.Common.{◌≡◌, Bool, List, length, All, Result, Ok, Err, OnOk, OnErr, refl, sym, ap, ◌∙◌, subst}
+use Rattle.std.proofs.Common.{◌≡◌, List, length, All, Result, Ok, Err, OnOk, OnErr, refl, sym, ap, ◌∙◌, subst}
 use Rattle.monoid_laws.specs.declared.Kind.{Kind}
 use Rattle.record_theory.specs.Named.{HaveValues}
 use Rattle.positions.specs.declared.phase.Phase.{Phase}
@@ -45,14 +45,14 @@ module _ (setting : Setting) where
   whole_after (Ok a) s t ok err h = answered_whole s t ok h
   whole_after (Err e) s t ok err h = refused_whole err.between t err.same (answered_whole s err.between err.ahead h)
 
-  pub way_then : {E : Type 0} (r : Result Bool E) (s u t : PlainStrand) → s ≡ u → OnOk r (IsAnsweredAhead setting s t) → OnOk r (IsWay setting u t)
+  pub way_then : {A E : Type 0} (r : Result A E) (s u t : PlainStrand) → s ≡ u → OnOk r (IsAnsweredAhead setting s t) → OnOk r (IsWay setting u t)
   way_then (Ok a) s u t e h = subst (λ (x : PlainStrand). IsWay setting x t) e h.way
   way_then (Err x) s u t e h = tt
 
-  pub lower_then : {E : Type 0} (r : Result Bool E) (s t : PlainStrand) → OnOk r (IsAnsweredAhead setting s t) → OnErr r (IsRefusedAhead setting s t) → t.lower ≡ s.lower
+  pub lower_then : {A E : Type 0} (r : Result A E) (s t : PlainStrand) → OnOk r (IsAnsweredAhead setting s t) → OnErr r (IsRefusedAhead setting s t) → t.lower ≡ s.lower
   lower_then (Ok a) s t ok err = ok.lower
   lower_then (Err x) s t ok err = ap (λ (u : PlainStrand). u.lower) err.same.is ∙ err.ahead.lower
 
-  pub kinds_then : {E : Type 0} (r : Result Bool E) (s t : PlainStrand) → OnOk r (IsAnsweredAhead setting s t) → OnErr r (IsRefusedAhead setting s t) → t.layer.kinds ≡ s.layer.kinds
+  pub kinds_then : {A E : Type 0} (r : Result A E) (s t : PlainStrand) → OnOk r (IsAnsweredAhead setting s t) → OnErr r (IsRefusedAhead setting s t) → t.layer.kinds ≡ s.layer.kinds
   kinds_then (Ok a) s t ok err = ok.kinds
   kinds_then (Err x) s t ok err = err.same.kinds ∙ err.ahead.kinds

@@ -23,9 +23,9 @@ use view_pool::View;
 impl<V: View> Strand<V> {
     /// Where the topmost instance is a loop's over a memo procedure, has records answer iterations: all those of a half that is halved
     /// again, where they can, else the first ones, and it goes down to the next; or the first ones of those that are left one by one. At a
-    /// spawn it has a record answer the child. Whether any were answered. It is said whether a spawned child is called, for the halves that
-    /// aren't answered, and whether a half of few iterations that aren't all answered is left as it is where they may be done in one go. Where
-    /// memory is refused the strand can't go on.
+    /// spawn it has a record answer the child. It is said whether a spawned child is called, for the halves that aren't answered, and whether a
+    /// half of few iterations that aren't all answered is left as it is where they may be done in one go. Where memory is refused the strand
+    /// can't go on.
     #[inline(always)]
     pub fn answer_ahead(
         &mut self,
@@ -35,7 +35,7 @@ impl<V: View> Strand<V> {
         records: &Records,
         calls: bool,
         leaves: bool,
-    ) -> Result<bool, AllocError>
+    ) -> Result<(), AllocError>
         requires kinds { self.old.layer.kinds ≡ program.now.kinds }
         requires monoids { All IsMonoid program.now.kinds }
         requires values { HaveValues program.now.kinds records.now }

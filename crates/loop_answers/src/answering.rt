@@ -28,9 +28,8 @@ pub(crate) const HALVINGS: u32 = meaning::HALVINGS;
 
 /// Where the topmost instance is a loop's over a memo procedure, has records answer iterations: all those of a half that is halved
 /// again, where they can, else the first ones, and it goes down to the next; or the first ones of those that are left one by one. At a
-/// spawn it has a record answer the child. Whether any were answered. It is said whether a spawned child is called, for the halves that
-/// aren't answered, and whether those of few iterations, which aren't all answered, are left as they are. Where memory is refused the
-/// strand can't go on.
+/// spawn it has a record answer the child. It is said whether a spawned child is called, for the halves that aren't answered, and whether
+/// those of few iterations, which aren't all answered, are left as they are. Where memory is refused the strand can't go on.
 #[inline(always)]
 #[tactic(auto, using(crate::proofs::Replays::answered_same))]
 pub fn answer_ahead<V: View>(
@@ -39,7 +38,7 @@ pub fn answer_ahead<V: View>(
     setting: Setting<'_>,
     calls: bool,
     leaves: bool,
-) -> Result<bool, AllocError>
+) -> Result<(), AllocError>
     requires kinds { machine.old.layer.kinds ≡ setting.program.now.kinds }
     requires monoids { All IsMonoid setting.program.now.kinds }
     requires values { HaveValues setting.program.now.kinds setting.records.now }
@@ -47,16 +46,16 @@ pub fn answer_ahead<V: View>(
     ensures refused { OnErr result (IsRefusedAhead (lent setting.entry) machine.old machine.new) }
 {
     if setting.records.is_empty() {
-        return Ok(false);
+        return Ok(());
     }
     match machine.phase {
         Phase::Running => match machine.top.work() {
             Work::Halves(_, _, _) => answer_halves(machine, alloc, setting, calls, leaves),
             Work::Turns(site, share) => answer_turns(machine, alloc, setting, site, share),
-            _ => Ok(false),
+            _ => Ok(()),
         },
         Phase::AtSpawn => answer_spawned(machine, alloc, setting),
-        _ => Ok(false),
+        _ => Ok(()),
     }
 }
 
@@ -66,7 +65,7 @@ fn answer_spawned<V: View>(
     machine: &mut Machine<V>,
     alloc: Global,
     setting: Setting<'_>,
-) -> Result<bool, AllocError>
+) -> Result<(), AllocError>
     requires at_spawn { machine.old.phase ≡ Phase.AtSpawn }
     requires kinds { machine.old.layer.kinds ≡ setting.program.now.kinds }
     requires monoids { All IsMonoid setting.program.now.kinds }
@@ -74,7 +73,8 @@ fn answer_spawned<V: View>(
     ensures ahead { OnOk result (IsAnsweredAhead (lent setting.entry) machine.old machine.new) }
     ensures refused { OnErr result (IsSameButAnswers machine.old machine.new) }
 {
-    machine.answer_spawned(alloc, setting)
+    machine.answer_spawned(alloc, setting)?;
+    Ok(())
 }
 
 /// The same at a half, and at the halves in it that it comes to. It is kept out of the loop over small steps, which saves its registers.
@@ -86,7 +86,7 @@ fn answer_halves<V: View>(
     setting: Setting<'_>,
     calls: bool,
     leaves: bool,
-) -> Result<bool, AllocError>
+) -> Result<(), AllocError>
     requires kinds { machine.old.layer.kinds ≡ setting.program.now.kinds }
     requires monoids { All IsMonoid setting.program.now.kinds }
     requires values { HaveValues setting.program.now.kinds setting.records.now }
@@ -96,11 +96,11 @@ fn answer_halves<V: View>(
     for _ in 0..HALVINGS {
         match answer_next(machine, alloc, setting, calls, leaves) {
             Ok(true) => {}
-            Ok(false) => return Ok(true),
+            Ok(false) => return Ok(()),
             Err(error) => return Err(error),
         }
     }
-    Ok(true)
+    Ok(())
 }
 
 /// The same at the half that comes next. Whether it came to another one of which nothing is known.
@@ -155,7 +155,7 @@ fn answer_half<V: View>(
     let code = loop_code(setting.program, machine.top.procedure(), turns.site);
     let by_turns = goes_by_turns(halvings, turns.share.count, code.grain);
     if by_turns {
-        let _ = answer_last(machine, alloc, setting, turns.site, halvings, turns.share)?;
+        answer_last(machine, alloc, setting, turns.site, halvings, turns.share)?;
         return Ok(false);
     }
     let wanted = Wanted {
@@ -195,7 +195,7 @@ pub(crate) fn answer_last<V: View>(
     site: Loop,
     halvings: u32,
     share: Share,
-) -> Result<bool, AllocError>
+) -> Result<(), AllocError>
     requires fits { ShareFits site share }
     requires there { machine.old.top.work ≡ Work.Halves site halvings share }
     requires running { machine.old.phase ≡ Phase.Running }
@@ -215,14 +215,16 @@ pub(crate) fn answer_last<V: View>(
     let code = loop_code(setting.program, machine.top.procedure(), site);
     let turns = Turns { site, share };
     let Some(found) = answers(machine, alloc, setting, code, turns, wanted) else {
-        return Ok(false);
+        return Ok(());
     };
     of_kinds(machine);
     let ends = ends_with(machine, found.count, share.count);
     if ends {
-        return end_last(machine, alloc, &found, site, share);
+        end_last(machine, alloc, &found, site, share)?;
+        return Ok(());
     }
-    begin_turns(machine, alloc, &found, site, share)
+    begin_turns(machine, alloc, &found, site, share)?;
+    Ok(())
 }
 
 /// Whether so many iterations are all of them, and the half may leave then.
@@ -241,7 +243,7 @@ fn answer_turns<V: View>(
     setting: Setting<'_>,
     site: Loop,
     share: Share,
-) -> Result<bool, AllocError>
+) -> Result<(), AllocError>
     requires fits { ShareFits site share }
     requires there { machine.old.top.work ≡ Work.Turns site share }
     requires running { machine.old.phase ≡ Phase.Running }
@@ -260,10 +262,11 @@ fn answer_turns<V: View>(
     let code = loop_code(setting.program, machine.top.procedure(), site);
     let turns = Turns { site, share };
     let Some(found) = answers(machine, alloc, setting, code, turns, wanted) else {
-        return Ok(false);
+        return Ok(());
     };
     of_kinds(machine);
-    end_turns(machine, alloc, &found, site, share)
+    end_turns(machine, alloc, &found, site, share)?;
+    Ok(())
 }
 
 /// What the layer keeps: each reducer's value is of its kind.

@@ -271,8 +271,5 @@ fn begin_last<V: View>(
         let _ = machine.halve(alloc, setting.program, turns.site, halvings, turns.share);
         return Ok(());
     }
-    match answer_last(machine, alloc, setting, turns.site, halvings, turns.share) {
-        Ok(_) => Ok(()),
-        Err(error) => Err(error),
-    }
+    answer_last(machine, alloc, setting, turns.site, halvings, turns.share)
 }

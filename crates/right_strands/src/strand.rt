@@ -192,9 +192,8 @@ impl<J: Run, V: View> RightStrand<J, V> {
 
     /// Where the topmost instance is a loop's over a memo procedure, has records answer iterations: all those of a half that is halved
     /// again, where they can, else the first ones, and it goes down to the next; or the first ones of those that are left one by one. At a
-    /// spawn it has a record answer the child. Whether any were answered. It is said whether a spawned child is called, for the halves that
-    /// aren't answered, and whether a half of few iterations that aren't all answered is left as it is where they may be done in one go. Where
-    /// memory is refused the strand has failed.
+    /// spawn it has a record answer the child. It is said whether a spawned child is called, for the halves that aren't answered, and whether a
+    /// half of few iterations that aren't all answered is left as it is where they may be done in one go. Where memory is refused the strand
     #[inline(always)]
     pub fn answer_ahead(
         &mut self,
@@ -202,7 +201,7 @@ impl<J: Run, V: View> RightStrand<J, V> {
         scene: &Scene<'_, J>,
         calls: bool,
         leaves: bool,
-    ) -> Result<bool, AllocError>
+    ) -> Result<(), AllocError>
         ensures way { OnOk result (IsWay J.setting self.old.strand self.new.strand) }
         ensures going { OnOk result (self.new.failed ≡ self.old.failed) }
         ensures failed { OnErr result (self.new.failed ≡ true) }
@@ -216,7 +215,7 @@ impl<J: Run, V: View> RightStrand<J, V> {
             calls,
             leaves,
         ) {
-            Ok(done) => Ok(done),
+            Ok(()) => Ok(()),
             Err(error) => {
                 self.body.failed = true;
                 Err(error)

@@ -313,7 +313,7 @@ impl<J: Run + Ledger + Stocked + Send, D: Deques, V: View> Floor<'_, J, D, V> {
             return Ok(());
         }
         self.run_ahead(is_alone, spawned, strand);
-        let _ = strand.answer_ahead(self.alloc, &self.scene, spawned.calls(), !is_alone)?;
+        strand.answer_ahead(self.alloc, &self.scene, spawned.calls(), !is_alone)?;
         Ok(())
     }
 

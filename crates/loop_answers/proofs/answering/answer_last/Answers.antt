@@ -1,4 +1,4 @@
-use Rattle.std.proofs.Common.{rules, ◌≡◌, ◌≤◌, true, List, refl, sym, ◌∙◌, subst}
+use Rattle.std.proofs.Common.{rules, ◌≡◌, ◌≤◌, true, List, Ok, refl, sym, ◌∙◌, subst}
 use Rattle.monoid_laws.specs.Kinds.{AreWorths}
 use Rattle.rerun_records.specs.declared.batch.Batch.{Batch}
 use Rattle.positions.specs.Strands.{PlainStrand}
@@ -33,8 +33,8 @@ returns-then-ends-clause-ahead g c =
     let known : c.ends_with-ends.result ≡ true = c.if-ends.true in
     let inside : IsInside s = subst IsInside back (c.ends_with-ends.ensures.inside known) in
     let all : instances_in bs ≡ c.args.share.count = sym c.in-Some.ensures.count ∙ c.ends_with-ends.ensures.all known in
-    last_over S c.end_last.result s c.answers.new.machine c.end_last.new.machine c.args.site c.args.share bs c.args.halvings
-    back c.requires.running c.requires.kinds are has c.requires.there inside all c.requires.turns c.end_last.ensures.ended
+    last_over S {E = ⊥} (Ok c.in_ok-end_last.field-0) s c.answers.new.machine c.end_last.new.machine c.args.site c.args.share bs c.args.halvings
+    back c.requires.running c.requires.kinds are has c.requires.there inside all c.requires.turns c.in_ok-end_last.ensures.ended
 
 pub returns-clause-ahead : goal.returns-clause-ahead
 returns-clause-ahead g c =
@@ -45,5 +45,5 @@ returns-clause-ahead g c =
     let are : AreWorths s.layer.kinds s.layer.worths = subst (λ (z : PlainStrand). AreWorths z.layer.kinds z.layer.worths) back c.of_kinds.ensures.worths in
     let has : HasBatches S s.layer.keeps c.args.site s.top c.args.share.first bs = c.in-Some.ensures.answers in
     let few : instances_in bs ≤ c.args.share.count = subst (λ n. n ≤ c.args.share.count) c.in-Some.ensures.count c.in-Some.ensures.few in
-    begun_over S c.begin_turns.result s c.answers.new.machine c.begin_turns.new.machine c.args.site c.args.share bs c.args.halvings
-    back c.requires.running c.requires.kinds are has c.requires.there few c.requires.turns c.begin_turns.ensures.ended
+    begun_over S {E = ⊥} (Ok c.in_ok-begin_turns.field-0) s c.answers.new.machine c.begin_turns.new.machine c.args.site c.args.share bs c.args.halvings
+    back c.requires.running c.requires.kinds are has c.requires.there few c.requires.turns c.in_ok-begin_turns.ensures.ended

@@ -1,4 +1,4 @@
-use Rattle.std.proofs.Common.{rules, ◌≡◌, ◌≤◌, List, subst, refl}
+use Rattle.std.proofs.Common.{rules, ◌≡◌, ◌≤◌, List, Ok, subst, refl}
 use Rattle.monoid_laws.specs.Kinds.{AreWorths}
 use Rattle.rerun_records.specs.declared.batch.Batch.{Batch}
 use Rattle.positions.specs.Strands.{PlainStrand}
@@ -23,5 +23,5 @@ returns-clause-ahead g c =
     let are : AreWorths s.layer.kinds s.layer.worths = subst (λ (z : PlainStrand). AreWorths z.layer.kinds z.layer.worths) back c.of_kinds.ensures.worths in
     let has : HasBatches S s.layer.keeps c.args.site s.top c.args.share.first bs = c.in-Some.ensures.answers in
     let few : instances_in bs ≤ c.args.share.count = subst (λ n. n ≤ c.args.share.count) c.in-Some.ensures.count c.in-Some.ensures.few in
-    turns_over S c.end_turns.result s c.answers.new.machine c.end_turns.new.machine c.args.site c.args.share bs bs
-    back c.requires.running c.requires.kinds are has c.requires.there few refl c.end_turns.ensures.ended
+    turns_over S {E = ⊥} (Ok c.in_ok-end_turns.field-0) s c.answers.new.machine c.end_turns.new.machine c.args.site c.args.share bs bs
+    back c.requires.running c.requires.kinds are has c.requires.there few refl c.in_ok-end_turns.ensures.ended
