@@ -237,6 +237,7 @@ fn go_left<V: View>(
     ensures ahead { IsAnsweredAhead (lent setting.entry) machine.old machine.new }
     ensures below { IfSome result (λ b. IsBelow (lent setting.entry) turns.site halvings b.share found.now b.passed machine.new) }
 {
+    // (the contract alone speaks of these)
     let _ = found;
     let share = left_of(turns.site, turns.share);
     match machine.halve(alloc, setting.program, turns.site, halvings, turns.share) {

@@ -174,10 +174,7 @@ fn answers_by<'a, V: View>(
             Some(batch) => {
                 singles = singles_with(singles, batch);
                 let asked = most_with(setting, search.wanted, ahead, batch, singles, most);
-                if asked == 0 {
-                    return Some(found_so_far(batches, count, End::Elsewhere, near));
-                }
-                if put_batch(&mut batches, batch).is_err() {
+                if asked == 0 || put_batch(&mut batches, batch).is_err() {
                     return Some(found_so_far(batches, count, End::Elsewhere, near));
                 }
                 most = asked;

@@ -1,4 +1,4 @@
-use Rattle.std.proofs.Common.{rules, to_z, of_z, w64, ◌≡◌, ℕ, ◌+◌, ◌-◌, ◌≤◌, ◌+ℤ◌, ℤ, pos, List, [], ◌∷◌, ◌++◌, Option, map, IfSome, refl, sym, ap, ◌∙◌, subst, arith}
+use Rattle.std.proofs.Common.{rules, to_z, of_z, w64, ◌≡◌, ℕ, ◌+◌, ◌-◌, ◌≤◌, ◌+ℤ◌, ℤ, pos, List, [], ◌∷◌, ◌++◌, Option, map, IfSome, Vec, Global, refl, sym, ap, ◌∙◌, subst, arith}
 use Rattle.meaning.specs.Elision.{depth_limit}
 use Rattle.linked_program.specs.CodeView.{expression as plain}
 use Rattle.rerun_records.specs.declared.batch.Batch.{Batch}
@@ -8,6 +8,7 @@ use Rattle.loop_answers.specs.Batches.{instances_in, AreBatches, IsBatchFrom, Co
 use Rattle.loop_answers.proofs.Batches.{instances_more, batches_more}
 use Rattle.loop_answers.proofs.SoFar.{none_so_far, has_so_far}
 use Rattle.loop_answers.proofs.finding.answers_by.Goals as goal
+use Rattle.loop_answers.proofs.finding.answers_by.Goals.{then-asked-eq0-via-then-asked-eq0, then-asked-eq0-via-else-asked-eq0+then-is_err}
 
 pub loop-preserved : goal.loop-preserved
 loop-preserved g c =
@@ -56,12 +57,20 @@ returns-then-count-most-clause-few g c = omega (arith, c.found_so_far.ensures.co
 
 pub returns-then-asked-eq0-clause-answers : goal.returns-then-asked-eq0-clause-answers
 returns-then-asked-eq0-clause-answers g c =
+    let kept : c.then-asked-eq0.batches.items ≡ c.loop.batches.items = elim c.then-asked-eq0.branch [
+      | then-asked-eq0-via-then-asked-eq0 w ↦ ap (λ (bs : Vec Batch Global). bs.items) w.batches-is
+      | then-asked-eq0-via-else-asked-eq0+then-is_err w ↦ (let same : w.put_batch.new.batches.items ≡ c.loop.batches.items = search rules in ap (λ (bs : Vec Batch Global). bs.items) w.batches-is ∙ same)
+    ] in
     has_so_far (lent c.args.setting) c.args.machine.now.layer.keeps c.args.turns.site c.args.machine.now.top (loop_of c.args.code) c.args.turns.share.first c.loop.batches.items c.found_so_far-then-asked-eq0.result.batches.items
-    c.requires.code c.in_ok-depth.ensures.memo c.in_ok-depth.ensures.room (rw c.found_so_far-then-asked-eq0.ensures.batches refl) c.loop.invariant.batches
+    c.requires.code c.in_ok-depth.ensures.memo c.in_ok-depth.ensures.room (rw c.found_so_far-then-asked-eq0.ensures.batches kept) c.loop.invariant.batches
 
 pub returns-then-asked-eq0-clause-count : goal.returns-then-asked-eq0-clause-count
 returns-then-asked-eq0-clause-count g c =
-    let is : c.found_so_far-then-asked-eq0.result.batches.items ≡ c.loop.batches.items = rw c.found_so_far-then-asked-eq0.ensures.batches refl in
+    let kept : c.then-asked-eq0.batches.items ≡ c.loop.batches.items = elim c.then-asked-eq0.branch [
+      | then-asked-eq0-via-then-asked-eq0 w ↦ ap (λ (bs : Vec Batch Global). bs.items) w.batches-is
+      | then-asked-eq0-via-else-asked-eq0+then-is_err w ↦ (let same : w.put_batch.new.batches.items ≡ c.loop.batches.items = search rules in ap (λ (bs : Vec Batch Global). bs.items) w.batches-is ∙ same)
+    ] in
+    let is : c.found_so_far-then-asked-eq0.result.batches.items ≡ c.loop.batches.items = rw c.found_so_far-then-asked-eq0.ensures.batches kept in
     c.found_so_far-then-asked-eq0.ensures.count ∙ c.loop.invariant.count ∙ sym (ap instances_in is)
 
 pub returns-then-asked-eq0-clause-few : goal.returns-then-asked-eq0-clause-few
@@ -92,21 +101,6 @@ returns-clause-count g c =
 
 pub returns-clause-few : goal.returns-clause-few
 returns-clause-few g c = omega (arith, c.found_so_far-2.ensures.count, c.loop.invariant.few, c.loop.invariant.most)
-
-pub returns-then-is_err-clause-answers : goal.returns-then-is_err-clause-answers
-returns-then-is_err-clause-answers g c =
-    let kept : c.put_batch.new.batches.items ≡ c.loop.batches.items = search rules in
-    has_so_far (lent c.args.setting) c.args.machine.now.layer.keeps c.args.turns.site c.args.machine.now.top (loop_of c.args.code) c.args.turns.share.first c.loop.batches.items c.found_so_far-then-is_err.result.batches.items
-    c.requires.code c.in_ok-depth.ensures.memo c.in_ok-depth.ensures.room (rw c.found_so_far-then-is_err.ensures.batches kept) c.loop.invariant.batches
-
-pub returns-then-is_err-clause-count : goal.returns-then-is_err-clause-count
-returns-then-is_err-clause-count g c =
-    let kept : c.put_batch.new.batches.items ≡ c.loop.batches.items = search rules in
-    let is : c.found_so_far-then-is_err.result.batches.items ≡ c.loop.batches.items = rw c.found_so_far-then-is_err.ensures.batches kept in
-    c.found_so_far-then-is_err.ensures.count ∙ c.loop.invariant.count ∙ sym (ap instances_in is)
-
-pub returns-then-is_err-clause-few : goal.returns-then-is_err-clause-few
-returns-then-is_err-clause-few g c = omega (arith, c.found_so_far-then-is_err.ensures.count, c.loop.invariant.few, c.loop.invariant.most)
 
 pub loop-init : goal.loop-init
 loop-init g c =
