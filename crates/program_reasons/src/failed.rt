@@ -1,6 +1,6 @@
 // Why a file failed, as far as the system tells when it is asked once more.
 use command_line::options::Options;
-use report_files::is_one_file;
+use report_files::is_spared;
 use std::alloc::AllocError;
 use std::fmt::Write;
 use std::fs::{Files, OpenOptions};
@@ -15,10 +15,10 @@ pub(crate) fn push_failed(
     path: &str,
     options: Options<'_>,
 ) -> Result<(), AllocError> {
-    if options.trace == Some(path) && is_spared(files, path, options) {
+    if options.trace == Some(path) && is_spared(files, path, options.program, options.tables) {
         return push_cause_line(
             text,
-            "It is the file of the program or of the tables, which a trace would take the place of.",
+            "It is the file of the program, of the tables or of the script, which a trace would take the place of.",
         );
     }
     if path == options.program {
@@ -63,11 +63,6 @@ fn push_unread(
 }
 
 const FOLDER: &str = "It is a folder.";
-
-// Whether a file is that of the program or of the tables, which no trace takes the place of.
-fn is_spared(files: &impl Files, path: &str, options: Options<'_>) -> bool {
-    is_one_file(files, path, options.program) || is_one_file(files, path, options.tables)
-}
 
 // Puts why a trace's file can't be made. It isn't emptied where it can.
 fn push_unmade(text: &mut String, files: &impl Files, path: &str) -> Result<(), AllocError> {
