@@ -1,10 +1,11 @@
-// The program of a file in its normal form.
+// The texts that a line asks for: the program of a file in its normal form, help and the version.
 ghost use Rattle.std.specs.Prelude.{◌≡◌, Err, true, IfErr, OnOk};
 ghost use Rattle.std.specs.Io.KnownBytes.{Appends, Keeps};
 ghost use Rattle.program_endings.specs.Endings.{IsWriterError};
 ghost use Rattle.program_endings.specs.Written.{HasBeginning};
 ghost use Rattle.cli.specs.Formatted.{IsFormattedOver, IsBegunOver, IsUnformatted, IsFormatError, IsEarly, IsRefusal};
 
+use command_line::options::OptionsError;
 use prepared_program::prepare::PrepareError;
 use printing_theory::normal_form;
 use procedure_parser::TextError;
@@ -14,6 +15,7 @@ use program_endings::session_error::SessionError;
 use program_endings::streams::{Failures, flush, write_whole};
 use report_files::files::FileSource;
 use std::alloc::Global;
+use std::fmt::Write as _;
 use std::io;
 use std::io::{BufWriter, Write};
 use std::rt::Runtime;
@@ -62,6 +64,24 @@ pub fn format_to<F: FileSource, W: Write>(
         Err(error) => return Err(refusal(error)),
     };
     match send(writer, text.as_slice(), failures) {
+        Ok(()) => Ok(()),
+        Err(error) => Err(ProgramError::Session(error)),
+    }
+}
+
+/// Writes the text that a line asks for, and an end of line, to standard output.
+pub fn show_text(
+    rt: &(impl Runtime + AllocGlobal),
+    alloc: Global,
+    asked: &OptionsError,
+) -> Result<(), ProgramError>
+    ensures refused { IfErr result IsFormatError }
+{
+    let mut text = String::new(alloc);
+    if write!(text, "{asked}\n").is_err() {
+        return Err(no_memory());
+    }
+    match send(&mut io::writer(rt), text.as_bytes(), &mut Failures::none()) {
         Ok(()) => Ok(()),
         Err(error) => Err(ProgramError::Session(error)),
     }

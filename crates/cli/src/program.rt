@@ -12,10 +12,10 @@ ghost use Rattle.cli.specs.Reports.{ReportsRefusal, WritesNothing};
 
 use crate::asking::Asking;
 use crate::beginning::{BeginError, begin};
-use crate::formatting::format_file;
+use crate::formatting::{format_file, show_text};
 use crate::sorts::Sort;
 use command_line::line::asked_by;
-use command_line::options::{Asked, Options};
+use command_line::options::{Asked, Options, OptionsError};
 use command_line::words::{as_strs, held_words};
 use kept_session::{Blocks, Session};
 use monoid_laws::Kind;
@@ -57,28 +57,23 @@ pub struct Told<E: Write + Drop, X: Explain + Drop> {
     pub explain: X,
 }
 
-/// How the program ends after its report: with status 0, or an error's text on standard error and its status; a text that
-/// the line asks for is on standard output. That a text can't be written changes nothing.
-pub fn ending(rt: &(impl Print + Eprint), reported: Result<(), ProgramError>) -> ExitCode
+/// How the program ends after its report: with status 0, or an error's text on standard error and its status. That this text can't be
+/// written changes nothing.
+pub fn ending(rt: &impl Eprint, reported: Result<(), ProgramError>) -> ExitCode
     ensures done { OnOk reported (exit_status result ≡ 0) }
     ensures failed { IfErr reported (λ e. exit_status result ≡ status_of e) }
 {
     match reported {
         Ok(()) => ExitCode::SUCCESS,
         Err(error) => {
-            let status = status(&error);
-            let _ = if status == 0 {
-                println!(rt; "{error}")
-            } else {
-                eprintln!(rt; "{error}")
-            };
-            ExitCode::from(status)
+            let _ = eprintln!(rt; "{error}");
+            ExitCode::from(status(&error))
         }
     }
 }
 
-/// Does what the program's line asks for: a session, or printing a program in its normal form. Its errors are those of the
-/// line, of a file, of `prepare`, of the session and of the output, but for the want of a kit, since a line asks for one kit
+/// Does what the program's line asks for: a session, printing a program in its normal form, or help or the version. Its errors are those
+/// of the line, of a file, of `prepare`, of the session and of the output, but for the want of a kit, since a line asks for one kit
 /// at least. The views are the caller's; one of another kind counts as want of memory. What is refused is explained where the
 /// line asks for it. At a terminal the lines of a live session are asked for on standard error, and what is refused is explained;
 /// of another session it is said there that commands are read to their end.
@@ -101,13 +96,9 @@ pub fn report<V: View, M: Fn(Sort, Kind) -> Result<V, AllocError>, X: Explain + 
         Ok(words) => words,
         Err(error) => return Err(ProgramError::Line(error)),
     };
-    let asked = match asked_by(alloc, words.as_slice()) {
-        Ok(asked) => asked,
-        Err(error) => return Err(ProgramError::Line(error)),
-    };
-    match asked {
-        Asked::Session(options) => report_by(rt, alloc, options, make, explain, is_terminal),
-        Asked::Print(path) => {
+    match asked_by(alloc, words.as_slice()) {
+        Ok(Asked::Session(options)) => report_by(rt, alloc, options, make, explain, is_terminal),
+        Ok(Asked::Print(path)) => {
             let files = ReportFiles {
                 rt,
                 program: path,
@@ -115,6 +106,8 @@ pub fn report<V: View, M: Fn(Sort, Kind) -> Result<V, AllocError>, X: Explain + 
             };
             format_file(rt, alloc, path, &files)
         }
+        Err(text @ (OptionsError::Help | OptionsError::Version)) => show_text(rt, alloc, &text),
+        Err(error) => Err(ProgramError::Line(error)),
     }
 }
 
