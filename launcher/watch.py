@@ -21,11 +21,10 @@ from watched_tables import CsvTables, Refused, TomlTables, bytes_of, csv_tool
 LOOKS, SOON = 0.25, 0.025
 # As many edits are shown of those that are made at once.
 FEW = 3
-# The options that are handed on to the program.
+# The options that are handed on to the program, beside --trace.
 OPTIONS = (
     ("workers", "N", "how many threads run the program"),
     ("kits", "N", "how many kits there are"),
-    ("trace", "FILE", "where the history of each run is written"),
 )
 
 
@@ -35,6 +34,14 @@ def say(words):
 
 def heading(words):
     return f"-- {time.strftime('%H:%M:%S')} {words}"
+
+
+def leads_to(path, other):
+    """Whether two paths lead to one file, as links do too."""
+    try:
+        return os.path.samefile(path, other)
+    except OSError:
+        return False
 
 
 @dataclass(frozen=True)
@@ -71,10 +78,11 @@ def hindrance(held, outline, tables):
 
 
 class Program:
-    """The program, with options for its sessions, and a folder for the texts that are handed to it."""
+    """The program, with options for its sessions, where these write their traces, and a folder for the texts that are handed to it."""
 
-    def __init__(self, program, options, room):
-        self.program, self.options, self.room = program, options, room
+    def __init__(self, program, options, trace, room):
+        self.program, self.room, self.trace = program, room, trace
+        self.options = options if trace is None else [*options, f"--trace={trace}"]
 
     def put(self, name, text):
         with open(f"{self.room}/{name}", "wb") as file:
@@ -96,6 +104,11 @@ class Program:
         """Raises why a program isn't one over these tables: the rules ask for their columns alone."""
         self.asked(self.put("program", text), self.put("headings", headings(tables).encode()))
 
+    def spare(self, paths, what):
+        """Raises that a trace would take the place of one of these files. The program can't see it, since it reads copies of them."""
+        if self.trace is not None and any(leads_to(self.trace, path) for path in paths):
+            raise Refused(f"failed {self.trace}\n  It is {what}, which a trace would take the place of.")
+
     def session(self, text, tables, outline):
         """A new session over these texts."""
         paths = self.put("program", text), self.put("tables", tables)
@@ -109,6 +122,11 @@ class Watch:
         self.program, self.path, self.tables = program, path, tables
         self.files = WatchedFiles([path, *tables.paths], tables.by_lines)
         self.held, self.shown, self.began = None, Shown(), 0.0
+
+    def spare(self):
+        """Raises that a trace would take the place of a file that is read here."""
+        self.program.spare(self.files.paths, "the file of the program or of the tables")
+        self.program.spare(self.tables.codes(), "a file of codes")
 
     def look(self):
         """Looks at the files, deals with them where they are others than before, and returns how long to wait before the next look."""
@@ -166,6 +184,7 @@ class Watch:
 
     def begin(self, text, given, outline, why):
         """Begins a new session in place of the one that is held, where the program takes these texts."""
+        self.spare()
         begun = Held(self.program.session(text, given.text(), outline), text, outline, given.tables)
         before, self.held = self.held, begun
         try:
@@ -208,6 +227,7 @@ def form(tool):
     words.add_argument("files", nargs="*", metavar="TABLES", help="the file of its tables in TOML, or CSV files of which they are made")
     for option, value, meaning in OPTIONS:
         words.add_argument(f"--{option}", metavar=value, help=meaning)
+    words.add_argument("--trace", metavar="FILE", help="where the history of each run is written")
     for option in ("--stats", "--explain"):
         words.add_argument(option, action="store_true", help="this is done in any case")
     tool.add_options(words.add_argument_group("of CSV files"))
@@ -215,34 +235,38 @@ def form(tool):
 
 
 def parsed(words, tool):
-    """The program's path, the tables, and the options that are the program's own."""
+    """The program's path, the tables, the options that are the program's own, and where the trace is written."""
     asked = form(tool)
     given = asked.parse_intermixed_args(words)
     files = given.table + given.files
     options = [f"--{option}={getattr(given, option)}" for option, _, _ in OPTIONS if getattr(given, option) is not None]
     if given.table or any("=" in file or file.lower().endswith(".csv") for file in files):
         try:
-            return given.program, CsvTables(tool, files, tool.Options(given)), options
+            return given.program, CsvTables(tool, files, tool.Options(given)), options, given.trace
         except tool.Unfit as error:
             asked.error(str(error))
     if len(files) != 1:
         asked.error("one file of tables is wanted, or CSV files")
     if tool.are_given(given):
         asked.error("these options are for CSV files")
-    return given.program, TomlTables(files[0]), options
+    return given.program, TomlTables(files[0]), options, given.trace
 
 
-def watch(program, path, tables, options):
+def watch(program, path, tables, options, trace):
     """Watches these files until it is interrupted, or the program can't be run so. Returns a status."""
     for file in (path, *tables.paths):
         if not os.path.isfile(file):
             say(f"failed {file}")
             return 1
     with tempfile.TemporaryDirectory(prefix="cilkreport-watch-") as room:
-        watching = Watch(Program(program, options, room), path, tables)
+        watching = Watch(Program(program, options, trace, room), path, tables)
         try:
+            watching.spare()
             while True:
                 time.sleep(watching.look())
+        except Refused as refusal:
+            say(refusal)
+            return 1
         except Ended as ended:
             say(ended.said)
             return ended.status
@@ -252,7 +276,7 @@ def watch(program, path, tables, options):
 
 def run(program, words):
     """Watches the files that the words name, by that program, and returns a status. Being interrupted is its way to end."""
-    path, tables, options = parsed(words, csv_tool())
+    path, tables, options, trace = parsed(words, csv_tool())
     # This is sent here where somebody opens a file to write to it in the moment in which it is asked whether anybody has.
     signal.signal(signal.SIGIO, signal.SIG_IGN)
     # The terminal has gone.
@@ -260,7 +284,7 @@ def run(program, words):
     # Rows by the hundred thousand come and go, and none of them refers to another.
     gc.disable()
     try:
-        return watch(program, path, tables, options)
+        return watch(program, path, tables, options, trace)
     except KeyboardInterrupt:
         return 0
     except BrokenPipeError:

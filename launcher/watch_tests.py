@@ -31,6 +31,7 @@ proc main() { cilk_for r in 1 .. limit sales : line(r); t = read total; return t
 """
 TABLES = '[sales]\ncolumns = ["qty", "price"]\nrows = [[1, 2, 5], [2, 3, 7], [3, 1, 100]]\n'
 
+WOULD_TAKE = "  It is the file of the program or of the tables, which a trace would take the place of."
 
 # Who is started where being interrupted is ignored, as behind `&`, would ignore it too.
 signal.signal(signal.SIGINT, signal.default_int_handler)
@@ -352,9 +353,9 @@ class Reports(InAFolder):
             if text is not None:
                 write(f"{self.folder}/{name}", text)
 
-    def watch(self, tables=None, options=()):
+    def watch(self, tables=None, trace=None):
         clock = Clock()
-        program = watch.Program(self.program, list(options), f"{self.folder}/room")
+        program = watch.Program(self.program, [], trace, f"{self.folder}/room")
         self.watching = watch.Watch(program, f"{self.folder}/program", tables or TomlTables(f"{self.folder}/tables"))
         self.addCleanup(self.watching.end)
         self.watching.files.now = self.clock = clock
@@ -514,6 +515,24 @@ class Reports(InAFolder):
         self.assertRegex(said[0], "^a new session, since the last one has ended with status -9")
         self.assertEqual(said[1], "result 131 -> 137")
 
+    def test_a_file_of_codes_and_one_that_has_become_a_watched_one_are_no_trace(self):
+        write(f"{self.folder}/sales.csv", "qty,price\n2,5\n3,7\n1,100\n")
+        tool, form = csv_tool(), argparse.ArgumentParser()
+        tool.add_options(form)
+        given = form.parse_args(["--code", "price", "--codes-in", self.folder])
+        trace = f"{self.folder}/sales.price.codes.csv"
+        self.watch(CsvTables(tool, [f"{self.folder}/sales.csv"], tool.Options(given)), trace)
+        failed = [f"failed {trace}", "  It is a file of codes, which a trace would take the place of."]
+        self.assertEqual(self.answered()[1:3], failed)
+        with open(trace, encoding="utf-8") as file:
+            self.assertEqual(file.read().split(), ["code,text", "1,5", "2,7", "3,100"])
+        self.watch(trace=f"{self.folder}/trace")
+        self.watching.spare()
+        os.link(f"{self.folder}/program", f"{self.folder}/trace")
+        self.assertEqual(self.answered()[1:3], [f"failed {self.folder}/trace", WOULD_TAKE])
+        with open(f"{self.folder}/program", encoding="utf-8") as file:
+            self.assertEqual(file.read(), SALES)
+
     def test_csv_files_are_the_tables(self):
         write(f"{self.folder}/sales.csv", "Price,shop,qty\n0.5,North,2\n0.7,South,3\n10,North,1\n")
         tool = csv_tool()
@@ -585,6 +604,16 @@ done
         called.stdout.close()
         write(f"{self.folder}/tables", TABLES.replace("7]", "9]"))
         self.assertEqual((called.wait(), called.stderr.read()), (1, ""))
+
+    def test_a_trace_that_would_empty_a_watched_file_is_not_made(self):
+        write(f"{self.folder}/other.csv", "a\n1\n")
+        os.symlink("tables", f"{self.folder}/by name")
+        os.link(f"{self.folder}/program", f"{self.folder}/by number")
+        for tables, trace in (("tables", "program"), ("tables", "./tables"), ("tables", "by name"), ("tables", "by number"), ("other.csv", "other.csv")):
+            self.assertEqual(self.ended("program", tables, "--trace", trace), (1, "", f"failed {trace}\n{WOULD_TAKE}\n"))
+        for name, text in (("program", SALES), ("tables", TABLES), ("other.csv", "a\n1\n")):
+            with open(f"{self.folder}/{name}", encoding="utf-8") as file:
+                self.assertEqual(file.read(), text)
 
     def test_what_it_can_not_be_called_with(self):
         self.assertEqual(self.ended("program", "nowhere"), (1, "", "failed nowhere\n"))

@@ -54,6 +54,10 @@ class TomlTables:
         except UnicodeDecodeError:
             raise Refused(f"{self.paths[0]}: isn't UTF-8") from None
 
+    def codes(self):
+        """There are no files of codes."""
+        return []
+
     def keep(self):
         """Nothing is kept beside the file."""
 
@@ -90,6 +94,10 @@ class CsvTables:
         sys.stderr.write("".join(line for line in lines if line not in self.told))
         sys.stderr.flush()
         self.told.update(lines)
+
+    def codes(self):
+        """The files of codes that are read and written beside the files."""
+        return [codes.path for table in self.made for codes in table.codes]
 
     def keep(self):
         """Writes which codes stand for which texts, where there are new ones."""
