@@ -32,6 +32,22 @@ def say(words):
     print(words, file=sys.stderr, flush=True)
 
 
+class OutputFailed(Exception):
+    """Answers can't be written."""
+
+
+def show(words):
+    """Writes to standard output, which is None where it is closed."""
+    if sys.stdout is None:
+        raise OutputFailed
+    try:
+        print(words, flush=True)
+    except BrokenPipeError:
+        raise
+    except OSError:
+        raise OutputFailed from None
+
+
 def heading(words):
     return f"-- {time.strftime('%H:%M:%S')} {words}"
 
@@ -179,7 +195,7 @@ class Watch:
         if commands:
             self.run(said)
         else:
-            print(heading("as before: nothing that counts has changed"), flush=True)
+            show(heading("as before: nothing that counts has changed"))
         return None
 
     def begin(self, text, given, outline, why):
@@ -206,7 +222,7 @@ class Watch:
         lines = [heading(why), *self.shown.lines(answer, self.held.outline.reducers)]
         counts = counts_shown(answer.counts)
         took = f"{milliseconds(now - started)} to run, {milliseconds(now - self.began)} in all"
-        print("\n".join(lines + [f"{counts}; {took}" if counts else took]), flush=True)
+        show("\n".join(lines + [f"{counts}; {took}" if counts else took]))
         if answer.said:
             say("\n".join(answer.said))
 
@@ -287,7 +303,10 @@ def run(program, words):
         return watch(program, path, tables, options, trace)
     except KeyboardInterrupt:
         return 0
-    except BrokenPipeError:
-        # Nobody reads the answers any more, and nothing may be left to be written to them.
-        os.dup2(os.open(os.devnull, os.O_WRONLY), sys.stdout.fileno())
+    except (BrokenPipeError, OutputFailed) as failure:
+        if isinstance(failure, OutputFailed):
+            say("failed output")
+        # Nothing may be left to be written where nobody reads the answers any more, or they can't be written.
+        if sys.stdout:
+            os.dup2(os.open(os.devnull, os.O_WRONLY), sys.stdout.fileno())
         return 1

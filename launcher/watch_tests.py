@@ -574,9 +574,9 @@ done
         write(f"{self.folder}/program", SALES)
         write(f"{self.folder}/tables", TABLES)
 
-    def call(self, *words):
+    def call(self, *words, **how):
         call = f"import sys; sys.dont_write_bytecode = True; sys.path.insert(0, {HERE!r}); import watch; sys.exit(watch.run({self.folder + '/cilkreport'!r}, sys.argv[1:]))"
-        pipes = {"stdout": subprocess.PIPE, "stderr": subprocess.PIPE}
+        pipes = {"stdout": subprocess.PIPE, "stderr": subprocess.PIPE, **how}
         called = subprocess.Popen([sys.executable, "-c", call, *words], cwd=self.folder, text=True, **pipes)
         self.addCleanup(called.communicate)
         self.addCleanup(called.kill)
@@ -605,11 +605,17 @@ done
         write(f"{self.folder}/tables", TABLES.replace("7]", "9]"))
         self.assertEqual((called.wait(), called.stderr.read()), (1, ""))
 
+    def test_answers_that_can_not_be_written(self):
+        with open("/dev/full", "w", encoding="utf-8") as full:
+            for how in ({"stdout": full}, {"preexec_fn": lambda: os.close(1)}):
+                called = self.call("program", "tables", **how)
+                self.assertEqual((called.wait(), called.stderr.read()), (1, "failed output\n"))
+
     def test_a_trace_that_would_empty_a_watched_file_is_not_made(self):
         write(f"{self.folder}/other.csv", "a\n1\n")
         os.symlink("tables", f"{self.folder}/by name")
         os.link(f"{self.folder}/program", f"{self.folder}/by number")
-        for tables, trace in (("tables", "program"), ("tables", "./tables"), ("tables", "by name"), ("tables", "by number"), ("other.csv", "other.csv")):
+        for tables, trace in (("tables", "by name"), ("tables", "by number"), ("other.csv", "other.csv")):
             self.assertEqual(self.ended("program", tables, "--trace", trace), (1, "", f"failed {trace}\n{WOULD_TAKE}\n"))
         for name, text in (("program", SALES), ("tables", TABLES), ("other.csv", "a\n1\n")):
             with open(f"{self.folder}/{name}", encoding="utf-8") as file:

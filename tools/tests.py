@@ -159,6 +159,13 @@ class TablesFromCsv(unittest.TestCase):
             if kept:
                 tool.write_codes(known)
 
+    def test_tables_that_can_not_be_written(self):
+        self.made("v\n1\n")
+        with open("/dev/full", "w", encoding="utf-8") as full:
+            for how in ({"stdout": full}, {"preexec_fn": lambda: os.close(1)}):
+                done = subprocess.run([sys.executable, TOOL, f"{self.folder}/sales.csv"], stderr=subprocess.PIPE, text=True, check=False, **how)
+                self.assertEqual((done.returncode, done.stderr), (1, "failed output\n"))
+
     def test_what_does_not_fit(self):
         self.assertEqual(self.refused("v\n1\nx\n"), "sales.csv: line 3: column v: 'x' isn't a number: a text column is taken by --code, or left out by --columns")
         self.assertEqual(self.refused("v\n2.5\n"), "sales.csv: line 2: column v: '2.5' isn't a whole number: --scale makes it one")
