@@ -6,7 +6,7 @@ import subprocess
 import sys
 import tempfile
 import time
-from argparse import ArgumentParser
+from argparse import Action, ArgumentParser
 from dataclasses import dataclass
 from typing import Dict, Optional
 
@@ -231,6 +231,16 @@ class Watch:
             self.held.session.end()
 
 
+class Once(Action):
+    """An option that may stand once, as it may for the program."""
+
+    def __call__(self, parser, given, value, option_string=None):
+        if getattr(given, self.dest) is not None:
+            parser.print_usage(sys.stderr)
+            parser.exit(2, f"  `{option_string}` stands twice.\n")
+        setattr(given, self.dest, value)
+
+
 def form(tool):
     """The words of this way to call the program."""
     words = ArgumentParser(
@@ -242,10 +252,10 @@ def form(tool):
     words.add_argument("program", metavar="PROGRAM", help="the file of the report program")
     words.add_argument("files", nargs="*", metavar="TABLES", help="the file of its tables in TOML, or CSV files of which they are made")
     for option, value, meaning in OPTIONS:
-        words.add_argument(f"--{option}", metavar=value, help=meaning)
-    words.add_argument("--trace", metavar="FILE", help="where the history of each run is written")
+        words.add_argument(f"--{option}", action=Once, metavar=value, help=meaning)
+    words.add_argument("--trace", action=Once, metavar="FILE", help="where the history of each run is written")
     for option in ("--stats", "--explain"):
-        words.add_argument(option, action="store_true", help="this is done in any case")
+        words.add_argument(option, action=Once, nargs=0, help="this is done in any case")
     tool.add_options(words.add_argument_group("of CSV files"))
     return words
 

@@ -629,6 +629,15 @@ done
             self.assertEqual((status, printed), (2, ""), words)
             self.assertIn("usage: cilkreport --watch PROGRAM TABLES.toml", said)
 
+    def test_an_option_that_stands_twice(self):
+        tool = csv_tool()
+        for option, values in (("--workers", ["2", "4"]), ("--kits", ["8", "8"]), ("--trace", ["a", "b"]), ("--stats", []), ("--explain", [])):
+            said, words = io.StringIO(), [option, *values[:1], "program", "tables"]
+            self.assertEqual(watch.parsed(words, tool)[0], "program")
+            with contextlib.redirect_stderr(said), self.assertRaises(SystemExit) as raised:
+                watch.parsed([*words, option, *values[1:]], tool)
+            self.assertEqual((raised.exception.code, said.getvalue().splitlines()[-1]), (2, f"  `{option}` stands twice."))
+
 
 if __name__ == "__main__":
     unittest.main()
