@@ -1,6 +1,7 @@
 """Watches the files of a report, and answers anew each time that they change."""
 import gc
 import os
+import re
 import signal
 import subprocess
 import sys
@@ -224,7 +225,8 @@ class Watch:
         took = f"{milliseconds(now - started)} to run, {milliseconds(now - self.began)} in all"
         show("\n".join(lines + [f"{counts}; {took}" if counts else took]))
         if answer.said:
-            say("\n".join(answer.said))
+            # Which run of the session it was is nobody's concern here.
+            say(re.sub(r"^run \d+: ", heading(""), "\n".join(answer.said), flags=re.MULTILINE))
 
     def end(self):
         if self.held:

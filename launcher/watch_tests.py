@@ -483,7 +483,8 @@ class Reports(InAFolder):
         self.answered()
         self.write(SALES.replace("if has sales[r] {", "if 1 {"), TABLES.replace("[3,", "[5,"))
         said = self.answered()
-        self.assertEqual(said[:2], ["define line; del sales 3; put sales 5 1 100", "fault missing row in line at 2"])
+        fault = "fault missing row in line at 2"
+        self.assertEqual(said[:4], ["define line; del sales 3; put sales 5 1 100", fault, "", fault])
         self.assertIn("  The table `sales` has no row 3.", said)
         self.write(SALES)
         self.assertEqual(self.answered()[:4], ["define line", "result 131", "total 131", "top 100 3 -> 100 5"])
