@@ -1,5 +1,5 @@
 //! The floor: the scene, and the one lock over the list of strands, the thieves' ends of the deques and the pool.
-ghost use Rattle.std.specs.Prelude.{◌≡◌, ◌+◌, ◌<◌, [], true, false, None, Some, All, length, IfOk, IfErr, IfSome, IfNone, OnOk};
+ghost use Rattle.std.specs.Prelude.{◌≡◌, ◌+◌, ◌<◌, [], true, false, None, Some, All, length, IfOk, IfErr, IfSome, IfNone};
 ghost use Rattle.linked_program.specs.Checked.{revised_of};
 ghost use Rattle.linked_program.specs.TableNames.{columned_of};
 ghost use Rattle.record_theory.specs.InStep.{IsInStep};
@@ -25,7 +25,6 @@ use crate::desk::{Desk, Parts};
 use crate::found::Found;
 use crate::gate::{Gate, Point};
 use crate::parts::parted_by;
-use crate::spawned::Spawned;
 use crossbeam_utils::CachePadded;
 use input_tables::Tables;
 use instance_records::record::Record;
@@ -55,12 +54,6 @@ use worker_seats::held::Held;
 use worker_seats::kits::{KitsOf, RightPool, Stocked};
 use worker_seats::seat::Seat;
 use worker_seats::supply::Supply;
-
-/// How many times a worker goes ahead before it looks whether the run has given up.
-const STEPS: usize = 64;
-
-/// How many times the first worker goes ahead before it looks so, while it is alone.
-const FEW: usize = 8;
 
 /// What contracts see of a floor: with how many kits its run began.
 pub struct PlainFloor {
@@ -216,131 +209,9 @@ impl<J: Run + Ledger + Stocked + Send, D: Deques, V: View> Floor<'_, J, D, V> {
         }
     }
 
-    /// Small steps, and what there is to do where the strand pauses. Whether the strand goes on. It stands in its callers' loops, which
-    /// then find the strand's parts once and not at each pause.
-    #[inline(always)]
-    pub(crate) fn step<R: Wait, G: Gate>(
-        &self,
-        rt: &R,
-        number: usize,
-        seat: &mut Seat<J, D>,
-        strand: &mut RightStrand<J, V>,
-        supply: &mut Supply<'_, Desk<J, D, V>, Kit<V>, KitsOf<J>, R>,
-        gate: &G,
-    ) -> bool
-        requires bound { IsBoundTo seat.old.here (spot_of strand.old.strand) }
-        requires kits { kits_of strand.old.strand + supply.old.free ≡ most }
-        ensures bound { result ≡ true → IsBoundTo seat.new.here (spot_of strand.new.strand) }
-        ensures kits { kits_of strand.new.strand + supply.new.free ≡ most }
-    {
-        match self.take_steps(number, seat, strand, supply, gate) {
-            Ok(Paused::Working) => !self.has_given_up(),
-            Ok(Paused::AtSpawn) => self.spawn(number, seat, strand, gate),
-            Ok(Paused::Returned) => self.resume(rt, number, seat, strand, gate),
-            _ => false,
-        }
-    }
-
-    /// Small steps until the strand pauses, or as many as are done in one go, which leave its lowest instance as it is. Its worker pushes
-    /// nothing meanwhile, so whether the deque holds enough is asked once. The go is over behind iterations that were recorded at once: they
-    /// may have lasted longer than thieves took to empty the deque. Want of memory is the only error.
-    #[inline(always)]
-    fn take_steps<R: Wait, G: Gate>(
-        &self,
-        number: usize,
-        seat: &mut Seat<J, D>,
-        strand: &mut RightStrand<J, V>,
-        supply: &mut Supply<'_, Desk<J, D, V>, Kit<V>, KitsOf<J>, R>,
-        gate: &G,
-    ) -> Result<Paused, AllocError>
-        requires kits { kits_of strand.old.strand + supply.old.free ≡ most }
-        ensures kits { kits_of strand.new.strand + supply.new.free ≡ most }
-        ensures spot { OnOk result (spot_of strand.new.strand ≡ spot_of strand.old.strand) }
-        ensures returned { IfOk result
-            (λ paused. paused ≡ Paused.Returned → HasReturned strand.new.strand) }
-        ensures seat { seat.new ≡ seat.old }
-    {
-        supply.begin();
-        let is_watched = gate.watches_updates();
-        let is_alone = self.is_alone.load(Ordering::Relaxed);
-        let steps = if is_alone { FEW } else { STEPS };
-        let mut spawned = Spawned::new(self.calls_children(seat, strand));
-        for _ in 0..steps {
-            self.steps_ahead(number, is_watched, is_alone, &mut spawned, strand, gate)?;
-            if self.record_ahead(is_watched || is_alone, &mut spawned, strand, supply)? {
-                return Ok(Paused::Working);
-            }
-            match strand.advance(self.alloc, &self.scene, supply)? {
-                Paused::Working => {}
-                paused => return Ok(paused),
-            }
-        }
-        Ok(Paused::Working)
-    }
-
-    /// Small steps that need no kit, where others work too: they may take long. Spawned children are called where it is said so.
-    #[inline(always)]
-    #[tactic(auto, using(crate::proofs::Staying::stays_way))]
-    fn run_ahead(&self, is_alone: bool, spawned: &mut Spawned, strand: &mut RightStrand<J, V>)
-        ensures spot { spot_of strand.new.strand ≡ spot_of strand.old.strand }
-        ensures lower { strand.new.strand.lower ≡ strand.old.strand.lower }
-    {
-        if !is_alone {
-            strand.run_ahead(self.alloc, &self.scene, spawned);
-        }
-    }
-
-    /// Small steps that need no kit, and iterations that records answer; halves of few iterations are left to those that record them in one go
-    /// behind these steps. Where updates are watched none, and the gate is told of an update that is next. Want of memory is the only error.
-    #[inline(always)]
-    #[tactic(auto, using(crate::proofs::Staying::stays_way))]
-    fn steps_ahead<G: Gate>(
-        &self,
-        number: usize,
-        is_watched: bool,
-        is_alone: bool,
-        spawned: &mut Spawned,
-        strand: &mut RightStrand<J, V>,
-        gate: &G,
-    ) -> Result<(), AllocError>
-        ensures spot { OnOk result (spot_of strand.new.strand ≡ spot_of strand.old.strand) }
-        ensures lower { strand.new.strand.lower ≡ strand.old.strand.lower }
-    {
-        if is_watched {
-            if strand.at_update(&self.scene) {
-                gate.at(number, Point::Update);
-            }
-            return Ok(());
-        }
-        self.run_ahead(is_alone, spawned, strand);
-        strand.answer_ahead(self.alloc, &self.scene, spawned.calls(), !is_alone)?;
-        Ok(())
-    }
-
-    /// Iterations that are recorded in one go, unless steps are done one by one; those of a half where spawned children are called. Whether there
-    /// were any. Want of memory is the only error.
-    #[inline(always)]
-    #[tactic(auto, using(crate::proofs::Staying::stays_on))]
-    fn record_ahead<R: Wait>(
-        &self,
-        one_by_one: bool,
-        spawned: &mut Spawned,
-        strand: &mut RightStrand<J, V>,
-        supply: &mut Supply<'_, Desk<J, D, V>, Kit<V>, KitsOf<J>, R>,
-    ) -> Result<bool, AllocError>
-        requires kits { kits_of strand.old.strand + supply.old.free ≡ most }
-        ensures kits { kits_of strand.new.strand + supply.new.free ≡ most }
-        ensures spot { OnOk result (spot_of strand.new.strand ≡ spot_of strand.old.strand) }
-    {
-        if one_by_one {
-            return Ok(false);
-        }
-        strand.record_ahead(self.alloc, &self.scene, spawned, supply)
-    }
-
     /// At a spawn: puts the continuation off and goes on with the child, or makes the child a call where the deque holds enough or
     /// there is no room. Whether the strand goes on: not where the run has given up.
-    fn spawn<G: Gate>(
+    pub(crate) fn spawn<G: Gate>(
         &self,
         number: usize,
         seat: &mut Seat<J, D>,
@@ -414,7 +285,7 @@ impl<J: Run + Ledger + Stocked + Send, D: Deques, V: View> Floor<'_, J, D, V> {
 
     /// Where the child has returned: goes on with the continuation that waits for it, unless all were stolen or the run has given
     /// up. Whether the strand goes on.
-    fn resume<R: Wait, G: Gate>(
+    pub(crate) fn resume<R: Wait, G: Gate>(
         &self,
         rt: &R,
         number: usize,
@@ -539,7 +410,7 @@ impl<J: Run + Ledger + Stocked + Send, D: Deques, V: View> Floor<'_, J, D, V> {
     }
 
     /// Whether it was noted beside the lock that the run has given up.
-    fn has_given_up(&self) -> bool {
+    pub(crate) fn has_given_up(&self) -> bool {
         self.gave_up.load(Ordering::Relaxed)
     }
 

@@ -12,6 +12,7 @@ mod locking;
 mod parts;
 pub mod run;
 mod spawned;
+mod steps;
 
 pub use floor::{Floor, PlainFloor};
 pub use gate::{Gate, NoGate, Point};
