@@ -547,7 +547,7 @@ class Reports(InAFolder):
         with open(f"{self.folder}/sales.shop.codes.csv", encoding="utf-8") as file:
             self.assertEqual(file.read().split(), ["code,text", "1,North", "2,South", "3,West"])
         write(f"{self.folder}/sales.csv", "Price,shop,qty\n0.5,East,2\n0.95,West,3\n10,North,1\n")
-        self.assertEqual(self.answered()[1], f"{self.folder}/sales.csv: line 3: column Price: '0.95' isn't a whole number")
+        self.assertEqual(self.answered()[1], f"{self.folder}/sales.csv: line 3: column Price: '0.95' times 10 isn't a whole number")
         write(f"{self.folder}/sales.csv", "Price,shop,qty\n0.5,Hill,2\n0.9,East,3\n10,North,1\n")
         self.assertEqual(self.answered()[0], "put sales 1 5 4 2; put sales 2 9 5 3")
 

@@ -17,6 +17,14 @@ TOOL = os.path.join(os.path.dirname(os.path.realpath(__file__)), "tables_from_cs
 SALES = "Day,Shop,Unit price,qty\n2025-01-01,North,2.50,3\n2025-01-02,South,4.75,2\n2025-01-02,North,,2\n2025-01-03,North,1,1\n"
 
 
+def loaded():
+    """The tool, as a module."""
+    loader = SourceFileLoader("tables_from_csv", TOOL)
+    tool = importlib.util.module_from_spec(importlib.util.spec_from_loader(loader.name, loader))
+    loader.exec_module(tool)
+    return tool
+
+
 class TablesFromCsv(unittest.TestCase):
     def setUp(self):
         folder = tempfile.TemporaryDirectory()
@@ -92,7 +100,55 @@ class TablesFromCsv(unittest.TestCase):
         words = ("--parted-by", ";", "--scale", "price=100")
         self.assertEqual(self.rows("price\n2,50\n-3\n", *words, "--decimal-comma"), ["1, 250", "2, -300"])
         self.assertEqual(self.refused("price\n2,50\n", *words), "sales.csv: line 2: column price: '2,50' isn't a number: --decimal-comma takes such ones")
-        self.assertEqual(self.refused("price\n1.250,50\n", *words, "--decimal-comma"), "sales.csv: line 2: column price: '1.250,50' isn't a number with a decimal comma")
+        self.assertEqual(self.refused("price\n1.250,50\n", *words, "--decimal-comma"), "sales.csv: line 2: column price: '1.250,50' isn't a number with a decimal comma: marks that part thousands have to be taken out of the file")
+
+    def read(self, text, *words):
+        """The rows of a file of that text in this process, a line each, and what is said of it; or why it is refused."""
+        with open(f"{self.folder}/sales.csv", "w", encoding="utf-8") as file:
+            file.write(text)
+        tool, form, said = loaded(), argparse.ArgumentParser(), io.StringIO()
+        tool.add_options(form)
+        with contextlib.redirect_stderr(said):
+            try:
+                (table,) = tool.tables_of([f"{self.folder}/sales.csv"], tool.Options(form.parse_args(words)))
+            except tool.Unfit as error:
+                return str(error).replace(f"{self.folder}/", "")
+        return list(table.rows.values()), said.getvalue().replace(f"{self.folder}/", "")
+
+    def test_commas_that_may_part_thousands(self):
+        either = "--decimal-comma takes its comma for a decimal one, and one that parts thousands has to be taken out of the file"
+        parted = "marks that part thousands have to be taken out of the file"
+        for number, why in (("1,000", either), ("-12,345", either), ("1,000,000", parted), ("1,000.50", parted), ("0,500", "--decimal-comma takes such ones")):
+            self.assertEqual(self.read(f'v\n"{number}"\n'), f"sales.csv: line 2: column v: '{number}' isn't a number: {why}")
+        why = "and no number of the column shows what its commas are"
+        cure = "--scale v=1000 takes them for decimal ones, and those that part thousands have to be taken out of the file"
+        for scale in ("1", "100", "500"):
+            for text, line, cell, point, joined in (("1,000", 2, "1,000", "1.000", 1000), ("7\n12,000\n2,000", 3, "12,000", "12.000", 12000), ("-1,000\n1234", 2, "-1,000", "-1.000", -1000)):
+                said = self.read(f"v\n{text}\n", "--parted-by", ";", "--decimal-comma", "--scale", f"v={scale}")
+                self.assertEqual(said, f"sales.csv: line {line}: column v: '{cell}' may be {point} or {joined}, {why}: {cure}")
+
+    def test_commas_that_are_decimal_ones(self):
+        words = ("--parted-by", ";", "--decimal-comma", "--scale")
+        self.assertEqual(self.read("v\n1,250\n2,000\n", *words, "v=1000"), ([[1250], [2000]], ""))
+        for other, value in (("2,50", 250), ("0,500", 50), ("1234,000", 123400), ("3,0", 300)):
+            self.assertEqual(self.read(f"v\n1,000\n{other}\n", *words, "v=100"), ([[100], [value]], ""))
+
+    def test_dots_that_may_part_thousands_are_told_of(self):
+        told = "'1.000' is taken for a decimal number, and not for 1000: dots that part thousands have to be taken out of the file"
+        rows, said = self.read("v,w,x,y\n1.000,1.000,1.000,1\n2.000,2.5,1.5,1\n", "--scale", "w=10", "--scale", "x=1000")
+        self.assertEqual((rows[1], said), ([2, 25, 1500, 1], f"sales.csv: line 2: column v: {told}\n"))
+        self.assertEqual(self.read("id,v\n1.000,2\n", "--row", "id"), "sales.csv: line 2: column id: '1.000' isn't a row's number: --row takes a column of whole numbers")
+
+    def test_what_only_python_takes_for_a_number(self):
+        for number in ("1_000", "\u0663", "1\u0663.5"):
+            why = "isn't a number: those have the digits 0 to 9, and no `_` between them"
+            self.assertEqual(self.read(f"v\n{number}\n"), f"sales.csv: line 2: column v: '{number}' {why}")
+            why = "isn't a row's number: --row takes a column of whole numbers"
+            self.assertEqual(self.read(f"id,v\n{number},1\n", "--row", "id"), f"sales.csv: line 2: column id: '{number}' {why}")
+        self.assertEqual(self.read("d\n0\u0668.04.2025\n", "--date", "d=%d.%m.%Y"), "sales.csv: line 2: column d: '0\u0668.04.2025' isn't a day in the form %d.%m.%Y")
+        for option, word in (("--scale", "v=1\u0663"), ("--empty", "v=\u0663")):
+            self.assertIn(f"and not {word}", self.read("v\n1\n", option, word))
+        self.assertEqual(self.read("v\ninf\n"), "sales.csv: line 2: column v: 'inf' isn't a number: a text column is taken by --code, or left out by --columns")
 
     def test_dates_in_other_forms(self):
         # 2025-04-08 is 55 years and 97 days behind 1970-01-01, and 14 of the years have a day more.
@@ -136,9 +192,7 @@ class TablesFromCsv(unittest.TestCase):
         self.assertEqual(said, "sales.csv: 2 lines are left out, in which a value is missing. Their numbers are left out too: ask `has`\n")
 
     def test_a_file_that_was_read_before_is_read_as_if_it_were_not(self):
-        loader = SourceFileLoader("tables_from_csv", TOOL)
-        tool = importlib.util.module_from_spec(importlib.util.spec_from_loader(loader.name, loader))
-        loader.exec_module(tool)
+        tool = loaded()
         form, path, before = argparse.ArgumentParser(), f"{self.folder}/sales.csv", []
         tool.add_options(form)
         words = ["--code", "shop", "--codes-in", self.folder, "--row", "id", "--skip-empty"]
@@ -159,6 +213,14 @@ class TablesFromCsv(unittest.TestCase):
             if kept:
                 tool.write_codes(known)
 
+    def test_help_and_usage(self):
+        out, said, status = self.made("v\n1\n", "--help")
+        self.assertEqual((said, status), ("", 0))
+        self.assertIn("--scale has a multiple of 1000 for it", " ".join(out.split()))
+        self.assertIn("COLUMN=%d.%m.%Y", out)
+        out, said, status = self.made("v\n1\n")
+        self.assertEqual((out, status, said.splitlines()[-1]), ("", 2, "tables_from_csv: error: no CSV file is named"))
+
     def test_tables_that_can_not_be_written(self):
         self.made("v\n1\n")
         with open("/dev/full", "w", encoding="utf-8") as full:
@@ -169,6 +231,7 @@ class TablesFromCsv(unittest.TestCase):
     def test_what_does_not_fit(self):
         self.assertEqual(self.refused("v\n1\nx\n"), "sales.csv: line 3: column v: 'x' isn't a number: a text column is taken by --code, or left out by --columns")
         self.assertEqual(self.refused("v\n2.5\n"), "sales.csv: line 2: column v: '2.5' isn't a whole number: --scale makes it one")
+        self.assertEqual(self.refused("v\n2.505\n", "--scale", "v=100"), "sales.csv: line 2: column v: '2.505' times 100 isn't a whole number")
         self.assertEqual(self.refused("v\n9223372036854775808\n"), "sales.csv: line 2: column v: '9223372036854775808' has no room in 64 bits")
         self.assertEqual(self.refused("v\n1e999999\n", "--scale", "v=10"), "sales.csv: line 2: column v: '1e999999' has no room in 64 bits")
         self.assertEqual(self.refused("d\n2025-02-30\n"), "sales.csv: line 2: column d: '2025-02-30' isn't a day of the calendar")
