@@ -172,6 +172,10 @@ class TablesFromCsv(unittest.TestCase):
         self.assertEqual(self.rows("v\n2\n", "--scale", "v=10", "--scale", "sales:v=100"), ["1, 200"])
         self.assertEqual(self.rows("v,v\n2,3\n"), ["1, 2, 3"])
 
+    def test_an_option_that_stands_twice_for_a_column(self):
+        for option, one, other in (("--scale", "v=10", "v=100"), ("--date", "v=%d.%m.%Y", "v=%m.%d.%Y"), ("--empty", "v=0", "v=0")):
+            self.assertEqual(self.read("v\n1\n", option, one, option, other), f"{option} v stands twice")
+
     def test_columns_that_there_are_not(self):
         self.made("Member\n1\n", name="loans.csv")
         there = "loans.csv has Member; sales.csv has Fine (EUR), b"
