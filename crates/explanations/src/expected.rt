@@ -2,6 +2,7 @@
 
 use crate::followers::{may_follow, push_followers};
 use crate::habits::{odd_in, push_habit};
+use crate::limits::{counted_limit, nested_limit};
 use crate::marks::{begins_declaration, mark_of, push_token};
 use crate::programs::{line_at, push_bytes};
 use procedure_parser::{TextError, parse};
@@ -31,13 +32,17 @@ pub(crate) fn push_expected(
     if !is_on(&tokens, at, line) {
         return Ok(false);
     }
-    let beginning = written(alloc, &tokens, declaration_around(&tokens, at), at, ' ')?;
+    let first = declaration_around(&tokens, at);
+    let beginning = written(alloc, &tokens, first, at, ' ')?;
     if beginning.len() > LONGEST_BEGINNING {
         return Ok(false);
     }
     let words = line_at(program, line);
     push_place(text, &tokens, at, words);
-    push_wanted(alloc, text, beginning.as_str(), tokens.get(at))?;
+    match nested_limit(alloc, beginning.as_str(), &tokens, first, at)? {
+        Some(limit) => push_limit(text, limit),
+        None => push_wanted(alloc, text, beginning.as_str(), &tokens, first, at)?,
+    }
     push_habit(text, &tokens, at, words);
     Ok(true)
 }
@@ -131,17 +136,24 @@ fn push_wanted(
     alloc: Global,
     text: &mut Page,
     beginning: &str,
-    refused: Option<&Placed<'_>>,
+    tokens: &[Placed],
+    first: usize,
+    at: usize,
 ) -> Result<(), AllocError> {
     let mut page = Page::new(alloc);
     push_followers(alloc, &mut page, beginning)?;
     let followers = page.whole()?;
-    if followers.is_empty() || is_one_too_many(alloc, beginning, refused)? {
-        text.put("A limit is passed there: docs/LANGUAGE.md has them.\n");
+    if followers.is_empty() || is_one_too_many(alloc, beginning, tokens.get(at))? {
+        push_limit(text, counted_limit(tokens, first, at));
     } else {
         text.put_named("Expected: ", followers.as_str(), ".\n");
     }
     Ok(())
+}
+
+// Puts which limit is passed at the end of the text.
+fn push_limit(text: &mut Page, limit: &str) {
+    text.put_named("A limit is passed there: ", limit, "\n")
 }
 
 // Whether a token that is refused could stand there if there were fewer declarations, or if it were a smaller number.

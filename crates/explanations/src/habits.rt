@@ -1,5 +1,6 @@
 //! What is written otherwise here than in most languages, where a text is refused for it.
 
+use crate::marks::name_before;
 use crate::rules::push_line;
 use std::alloc::{AllocError, Global};
 use text_page::Page;
@@ -40,20 +41,6 @@ pub(crate) fn push_habit(text: &mut Page, tokens: &[Placed], at: usize, line: &[
         }
         _ if before == "not" => push_line(text, NO_NOT),
         _ => {}
-    }
-}
-
-// The name in front of the token of that number; nothing where there is none.
-fn name_before<'a>(tokens: &[Placed<'a>], at: usize) -> &'a str {
-    if at == 0 {
-        return "";
-    }
-    match tokens.get(at - 1) {
-        Some(before) => match before.token {
-            Token::Name(name) => name,
-            _ => "",
-        },
-        None => "",
     }
 }
 

@@ -8,6 +8,7 @@ mod expressions;
 pub mod faults;
 mod followers;
 mod habits;
+mod limits;
 pub mod lines;
 mod marks;
 pub mod programs;
