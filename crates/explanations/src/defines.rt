@@ -1,7 +1,7 @@
 //! Why a text that defines procedures is refused.
 
 use crate::expected::push_expected;
-use crate::programs::{LOOKED_FOR, line_at, push_broken_line, push_shown, wrong_byte};
+use crate::programs::{push_broken_line, push_shown, push_wrong_byte};
 use crate::rules::{push_line, push_rule};
 use crate::statements::{procedure_called, push_statement, statement_on};
 use linked_program::violation::Rule;
@@ -23,19 +23,15 @@ pub(crate) fn push_bad_define(
         push_line(text, "The text has more than 1,048,576 bytes.");
         return Ok(());
     }
-    push_shown(text, define, line);
-    if let Some(wrong) = wrong_byte(line_at(define, line)) {
-        push_line(text, wrong);
+    if push_wrong_byte(text, define, line) {
         return Ok(());
     }
     if let Some(wrong) = wrong_for_a_define(alloc, define, line)? {
+        push_shown(text, define, line);
         push_line(text, wrong);
         return Ok(());
     }
-    if !push_expected(alloc, text, define, line)? {
-        push_line(text, LOOKED_FOR);
-    }
-    Ok(())
+    push_expected(alloc, text, define, line)
 }
 
 // What is said of a text that a program could have, but no define.

@@ -4,7 +4,9 @@ use crate::followers::{may_follow, push_followers};
 use crate::habits::{odd_in, push_habit};
 use crate::limits::{counted_limit, nested_limit};
 use crate::marks::{begins_declaration, mark_of, push_token};
-use crate::programs::{line_at, push_bytes};
+use crate::places::place_of;
+use crate::programs::{LOOKED_FOR, line_at, push_bytes, push_looked_for, push_shown_at};
+use crate::rules::push_line;
 use procedure_parser::{TextError, parse};
 use std::alloc::{AllocError, Global};
 use text_page::Page;
@@ -13,38 +15,53 @@ use token_scanner::{LONGEST_TEXT, Placed, Token, tokens};
 // The longest beginning of a declaration that is read again with each word that could follow it, in bytes.
 const LONGEST_BEGINNING: usize = 65_536;
 
-/// Puts a line about the token at which a program's text is refused, which is on that line of it, and what could stand in its place, at
-/// the end of the text. It is false, and nothing is put there, where no such token is found, or too much stands in front of it. Want of
-/// memory is the only error.
+/// Puts the line of a program's text at which it is refused, the token there that can't stand where it does, and what could stand in its
+/// place, at the end of the text. Want of memory is the only error.
 pub(crate) fn push_expected(
     alloc: Global,
     text: &mut Page,
     program: &[u8],
     line: u32,
-) -> Result<bool, AllocError> {
+) -> Result<(), AllocError> {
     if program.len() > LONGEST_TEXT {
-        return Ok(false);
+        push_looked_for(text, program, line);
+        return Ok(());
     }
     let tokens = tokens(alloc, program)?;
-    let Some(at) = refused_at(alloc, &tokens)? else {
-        return Ok(false);
-    };
-    if !is_on(&tokens, at, line) {
-        return Ok(false);
+    match refused_at(alloc, &tokens)? {
+        Some(at) if is_on(&tokens, at, line) => {
+            let words = line_at(program, line);
+            push_shown_at(text, program, line, place_of(&tokens, at, words));
+            push_token_refused(alloc, text, &tokens, at, words)
+        }
+        _ => {
+            push_looked_for(text, program, line);
+            Ok(())
+        }
     }
-    let first = declaration_around(&tokens, at);
-    let beginning = written(alloc, &tokens, first, at, ' ')?;
+}
+
+// Puts which token of that line can't stand where it does, and what could, unless too much stands in front of it.
+fn push_token_refused(
+    alloc: Global,
+    text: &mut Page,
+    tokens: &[Placed],
+    at: usize,
+    words: &[u8],
+) -> Result<(), AllocError> {
+    let first = declaration_around(tokens, at);
+    let beginning = written(alloc, tokens, first, at, ' ')?;
     if beginning.len() > LONGEST_BEGINNING {
-        return Ok(false);
+        push_line(text, LOOKED_FOR);
+        return Ok(());
     }
-    let words = line_at(program, line);
-    push_place(text, &tokens, at, words);
-    match nested_limit(alloc, beginning.as_str(), &tokens, first, at)? {
+    push_place(text, tokens, at, words);
+    match nested_limit(alloc, beginning.as_str(), tokens, first, at)? {
         Some(limit) => push_limit(text, limit),
-        None => push_wanted(alloc, text, beginning.as_str(), &tokens, first, at)?,
+        None => push_wanted(alloc, text, beginning.as_str(), tokens, first, at)?,
     }
-    push_habit(text, &tokens, at, words);
-    Ok(true)
+    push_habit(text, tokens, at, words);
+    Ok(())
 }
 
 // The number of the token at which a text of these is refused, counted from 0; it is one more than the last one's where the text ends

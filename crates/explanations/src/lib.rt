@@ -11,6 +11,7 @@ mod habits;
 mod limits;
 pub mod lines;
 mod marks;
+mod places;
 pub mod programs;
 pub mod rules;
 mod statements;

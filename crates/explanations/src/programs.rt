@@ -27,22 +27,46 @@ pub fn push_bad_program(
         push_line(text, "The text has more than 1,048,576 bytes.");
         return Ok(());
     }
-    push_shown(text, program, line);
     if is_of_tables(alloc, program)? {
+        push_shown(text, program, line);
         push_line(
             text,
             "These are tables: PROGRAM, the file of the program, comes first, and TABLES behind it.",
         );
         return Ok(());
     }
-    if let Some(wrong) = wrong_byte(line_at(program, line)) {
-        push_line(text, wrong);
+    if push_wrong_byte(text, program, line) {
         return Ok(());
     }
-    if !push_expected(alloc, text, program, line)? {
-        push_line(text, LOOKED_FOR);
+    push_expected(alloc, text, program, line)
+}
+
+/// Puts a line with a byte that no text may have, and which that is, at the end of the text; it is false, and nothing is put there, where
+/// the line has none.
+pub(crate) fn push_wrong_byte(text: &mut Page, program: &[u8], line: u32) -> bool {
+    let words = line_at(program, line);
+    let Some(wrong) = wrong_byte(words) else {
+        return false;
+    };
+    push_shown_at(text, program, line, wrong_place(words));
+    push_line(text, wrong);
+    true
+}
+
+// The place of the first byte of a line that no text may have.
+fn wrong_place(words: &[u8]) -> usize {
+    for (at, byte) in words.iter().enumerate() {
+        if !is_of_a_text(*byte) {
+            return at;
+        }
     }
-    Ok(())
+    0
+}
+
+/// Puts the line of a text at which it is refused, and what to look for where the token isn't found.
+pub(crate) fn push_looked_for(text: &mut Page, program: &[u8], line: u32) {
+    push_shown(text, program, line);
+    push_line(text, LOOKED_FOR)
 }
 
 /// Puts the line of a text that breaks a rule, what the rule asks for and how to mend it at the end of the text. Line 0 is none. Want of
@@ -111,10 +135,32 @@ pub(crate) fn line_at(program: &[u8], line: u32) -> &[u8] {
 /// Puts the line of that number of a text, counted from 1, at the end of the text, as far as it isn't too long to be shown; nothing for
 /// line 0. What isn't a byte of a program is shown as a question mark.
 pub fn push_shown(text: &mut Page, program: &[u8], line: u32) {
+    push_shown_at(text, program, line, 0)
+}
+
+/// Puts such a line, and where it is too long to be shown a part with the byte of that place, counted from 0.
+pub(crate) fn push_shown_at(text: &mut Page, program: &[u8], line: u32, place: usize) {
     if line == 0 {
         return;
     }
-    push_line_shown(text, line_at(program, line), line as usize)
+    let words = line_at(program, line);
+    let from = shown_from(words.len(), place);
+    if from == 0 {
+        return push_line_shown(text, words, line as usize);
+    }
+    text.put_count("  ", u64::from(line), " | .. ");
+    push_bytes(text, words.get(from..).unwrap_or(&[]));
+    text.put("\n")
+}
+
+// From which place on a line of so many bytes is shown, so that the byte of a place is among them.
+fn shown_from(length: usize, place: usize) -> usize {
+    if place < MOST_SHOWN - 20 {
+        return 0;
+    }
+    place
+        .saturating_sub(MOST_SHOWN / 2)
+        .min(length.saturating_sub(MOST_SHOWN))
 }
 
 /// Puts a line that is given by itself, with its number, at the end of the text as `push_shown` does.

@@ -1,6 +1,6 @@
 //! What is wrong with a tables' text.
 
-use crate::programs::{has_byte, line_at, push_shown};
+use crate::programs::{has_byte, line_at, push_shown_at};
 use crate::rules::push_line;
 use std::alloc::{AllocError, Global};
 use std::collections::BTreeSet;
@@ -21,7 +21,12 @@ pub fn push_bad_toml(alloc: Global, text: &mut Page, tables: &str) {
     };
     let bytes = tables.as_bytes();
     if let Some(span) = error.span() {
-        push_shown(text, bytes, line_of(bytes, span.start));
+        push_shown_at(
+            text,
+            bytes,
+            line_of(bytes, span.start),
+            place_in_line(bytes, span.start),
+        );
     }
     push_line(text, error.message());
     if is_of_commas(line_at(bytes, 1)) {
@@ -41,6 +46,19 @@ fn line_of(bytes: &[u8], place: usize) -> u32 {
         }
     }
     line
+}
+
+// How many bytes of its line stand in front of the byte of that number.
+fn place_in_line(bytes: &[u8], place: usize) -> usize {
+    let mut before: usize = 0;
+    for byte in bytes.iter().take(place) {
+        before = if *byte == b'\n' {
+            0
+        } else {
+            before.saturating_add(1)
+        };
+    }
+    before
 }
 
 // Whether a line is of words with marks between them, as the first of a CSV file is, and could be none of a file of tables.
