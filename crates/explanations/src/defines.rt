@@ -1,12 +1,13 @@
 //! Why a text that defines procedures is refused.
 
+use crate::broken::{Place, broken_by};
+use crate::broken_words::push_broken_name;
 use crate::expected::push_expected;
 use crate::programs::{push_broken_line, push_shown, push_wrong_byte};
 use crate::rules::{push_line, push_rule};
 use crate::statements::{procedure_called, push_statement, statement_on};
-use linked_program::violation::Rule;
 use meaning::tree::Program;
-use procedure_parser::parse;
+use procedure_parser::{TextError, parse, parse_define};
 use std::alloc::{AllocError, Global};
 use text_page::Page;
 use token_scanner::{LONGEST_TEXT, Mark, Placed, Token, tokens};
@@ -68,22 +69,47 @@ fn has_reducer_on(tokens: &[Placed], line: u32) -> bool {
     false
 }
 
-/// Puts the line by which a define would break a rule, what the rule asks for and how to mend it at the end of the text. It is a line of
-/// the define, or of the text that a procedure of the program has come from. Want of memory is the only error.
+/// Puts the line by which a define would break a rule, which name breaks it, what the rule asks for and how to mend it at the end of the
+/// text. It is a line of the define, or of the text that a procedure of the place's program, which is that without the define, has come
+/// from. Want of memory is the only error.
 pub(crate) fn push_broken(
     alloc: Global,
     text: &mut Page,
     define: &[u8],
-    program: &Program,
-    rule: Rule,
+    place: Place<'_>,
     holder: &str,
-    line: u32,
+) -> Result<(), AllocError> {
+    match parse_define(alloc, define, place.program) {
+        Ok(program) => {
+            let place = Place {
+                program: &program,
+                tables: place.tables,
+                rule: place.rule,
+                line: place.line,
+            };
+            push_broken_in(alloc, text, define, place, holder)
+        }
+        Err(TextError::NoMemory) => Err(AllocError),
+        Err(TextError::Text { .. }) => Ok(()),
+    }
+}
+
+// Puts that of a place in the program with the define.
+fn push_broken_in(
+    alloc: Global,
+    text: &mut Page,
+    define: &[u8],
+    place: Place<'_>,
+    holder: &str,
 ) -> Result<(), AllocError> {
     if defines(alloc, define, holder)? {
-        return push_broken_line(alloc, text, define, rule, line);
+        return push_broken_line(alloc, text, define, place, holder);
     }
-    push_older(text, program, holder, line);
-    push_rule(text, rule);
+    push_older(text, place.program, holder, place.line);
+    if let Some(broken) = broken_by(alloc, place, holder)? {
+        push_broken_name(text, place, broken);
+    }
+    push_rule(text, place.rule);
     Ok(())
 }
 

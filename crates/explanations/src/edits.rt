@@ -1,5 +1,6 @@
 //! Why an edit of a script is refused, and what would be taken.
 
+use crate::broken::Place;
 use crate::defines::{push_bad_define, push_broken};
 use crate::rules::push_line;
 use input_tables::{RowError, Tables};
@@ -28,7 +29,13 @@ pub fn push_refused(
         }
         EditError::BadText { line } => push_bad_define(alloc, text, text_in(edit), *line),
         EditError::Broken { rule, holder, line } => {
-            push_broken(alloc, text, text_in(edit), program, *rule, holder, *line)
+            let place = Place {
+                program,
+                tables,
+                rule: *rule,
+                line: *line,
+            };
+            push_broken(alloc, text, text_in(edit), place, holder)
         }
         EditError::Exhausted => {
             push_exhausted(text);
@@ -76,7 +83,8 @@ fn text_in<'a>(edit: &'a Edit<'_>) -> &'a [u8] {
     }
 }
 
-fn push_unknown_table(text: &mut Page, table: &str, tables: &Tables) {
+/// Puts that there is no such table, and which ones there are, at the end of the text.
+pub(crate) fn push_unknown_table(text: &mut Page, table: &str, tables: &Tables) {
     text.put_named("  There is no table `", table, "`. ");
     if tables.count() == 0 {
         return text.put("The tables' file has none.\n");
@@ -88,16 +96,16 @@ fn push_unknown_table(text: &mut Page, table: &str, tables: &Tables) {
     push_rest(text, tables.count())
 }
 
-// Puts one more name of a list.
-fn push_listed(text: &mut Page, number: usize, name: &str) {
+/// Puts one more name of a list.
+pub(crate) fn push_listed(text: &mut Page, number: usize, name: &str) {
     if number > 0 {
         text.put(", ");
     }
     text.put_named("`", name, "`");
 }
 
-// Puts the end of a list of so many names.
-fn push_rest(text: &mut Page, names: usize) {
+/// Puts the end of a list of so many names.
+pub(crate) fn push_rest(text: &mut Page, names: usize) {
     if names > MOST_LISTED {
         let more = names - MOST_LISTED;
         text.put_count(" and ", more as u64, " more");

@@ -1,6 +1,9 @@
 //! What a refusal or a fault means and how to mend it, in plain words, as lines under its own.
 #![tactic(auto)]
 
+mod absent;
+mod broken;
+mod broken_words;
 mod defines;
 pub mod edits;
 mod expected;
@@ -8,6 +11,7 @@ mod expressions;
 pub mod faults;
 mod followers;
 mod habits;
+mod known;
 mod limits;
 pub mod lines;
 mod marks;

@@ -1,6 +1,7 @@
 //! At which byte of its line a token begins.
 
-use token_scanner::Placed;
+use std::alloc::{AllocError, Global};
+use token_scanner::{LONGEST_TEXT, Placed, Token, tokens};
 
 /// The place in a line at which the token of that number begins, which is of that line; the line's end where there is no such token.
 pub(crate) fn place_of(tokens: &[Placed], at: usize, line: &[u8]) -> usize {
@@ -8,6 +9,20 @@ pub(crate) fn place_of(tokens: &[Placed], at: usize, line: &[u8]) -> usize {
         Some(placed) => place_behind(line, count_before(tokens, at, placed.line)),
         None => line.len(),
     }
+}
+
+/// The place in a line at which a name stands first; 0 where it doesn't. Want of memory is the only error.
+pub(crate) fn place_of_name(alloc: Global, line: &[u8], name: &str) -> Result<usize, AllocError> {
+    if line.len() > LONGEST_TEXT {
+        return Ok(0);
+    }
+    let tokens = tokens(alloc, line)?;
+    for (at, placed) in tokens.iter().enumerate() {
+        if matches!(placed.token, Token::Name(found) if found == name) {
+            return Ok(place_of(&tokens, at, line));
+        }
+    }
+    Ok(0)
 }
 
 // How many tokens of that line stand in front of the one of that number.

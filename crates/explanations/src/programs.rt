@@ -1,9 +1,15 @@
 //! Why a program's text isn't in the language, as far as its bytes tell.
 
+use crate::broken::{Place, broken_by};
+use crate::broken_words::push_broken_name;
 use crate::expected::push_expected;
+use crate::places::place_of_name;
 use crate::rules::{push_line, push_rule_on};
 use crate::tables::is_of_tables;
+use input_tables::{Tables, TablesError};
 use linked_program::violation::Rule;
+use meaning::tree::Program;
+use procedure_parser::{TextError, parse};
 use std::alloc::{AllocError, Global};
 use text_page::Page;
 
@@ -69,17 +75,67 @@ pub(crate) fn push_looked_for(text: &mut Page, program: &[u8], line: u32) {
     push_line(text, LOOKED_FOR)
 }
 
-/// Puts the line of a text that breaks a rule, what the rule asks for and how to mend it at the end of the text. Line 0 is none. Want of
-/// memory is the only error.
-pub fn push_broken_line(
+/// Puts the line of a program that breaks a rule, which name breaks it, what the rule asks for and how to mend it at the end of the text.
+/// Line 0 is none. Want of memory is the only error.
+pub fn push_broken_program(
     alloc: Global,
     text: &mut Page,
     program: &[u8],
+    tables: &str,
     rule: Rule,
+    holder: &str,
     line: u32,
 ) -> Result<(), AllocError> {
-    push_shown(text, program, line);
-    push_rule_on(alloc, text, rule, line_at(program, line))
+    let tables = tables_of(alloc, tables)?;
+    let tree = parsed(alloc, program)?;
+    let place = Place {
+        program: &tree,
+        tables: &tables,
+        rule,
+        line,
+    };
+    push_broken_line(alloc, text, program, place, holder)
+}
+
+// The tables of a text; none where it is refused.
+fn tables_of(alloc: Global, text: &str) -> Result<Tables, AllocError> {
+    match Tables::from_toml(alloc, text) {
+        Ok(tables) => Ok(tables),
+        Err(TablesError::NoMemory) => Err(AllocError),
+        Err(_) => Ok(Tables::new(alloc)),
+    }
+}
+
+// The program of a text; one without declarations where it is refused.
+fn parsed(alloc: Global, text: &[u8]) -> Result<Program, AllocError> {
+    match parse(alloc, text) {
+        Ok(program) => Ok(program),
+        Err(TextError::NoMemory) => Err(AllocError),
+        Err(TextError::Text { .. }) => Ok(Program {
+            declarations: Vec::new(alloc),
+        }),
+    }
+}
+
+/// Puts such a line of a text whose procedures are some of a program's at the end of the text.
+pub(crate) fn push_broken_line(
+    alloc: Global,
+    text: &mut Page,
+    written: &[u8],
+    place: Place<'_>,
+    holder: &str,
+) -> Result<(), AllocError> {
+    let words = line_at(written, place.line);
+    let broken = broken_by(alloc, place, holder)?;
+    let at = match broken {
+        Some(broken) => place_of_name(alloc, words, broken.name())?,
+        None => 0,
+    };
+    push_shown_at(text, written, place.line, at);
+    if let Some(broken) = broken {
+        push_broken_name(text, place, broken);
+    }
+    push_rule_on(alloc, text, place.rule, words)
 }
 
 // What is said of a line with a byte that no text may have.

@@ -14,7 +14,7 @@ use crate::failed::{push_failed, push_failed_program};
 use command_line::line::asked_by;
 use command_line::options::{Asked, OptionsError};
 use command_line::words::{as_strs, held_words};
-use explanations::programs::{push_bad_program, push_broken_line};
+use explanations::programs::{push_bad_program, push_broken_program};
 use explanations::tables::{push_bad_table, push_bad_toml};
 use explanations::words::push_mistake;
 use prepared_program::prepare::PrepareError;
@@ -144,7 +144,15 @@ pub fn reasons(
         PrepareError::Shape { table } => push_bad_table(alloc, &mut page, tables, table.as_str())?,
         PrepareError::Check { rule, name, line } => {
             push_holder(&mut page, name.as_str());
-            push_broken_line(alloc, &mut page, program, *rule, *line)?;
+            push_broken_program(
+                alloc,
+                &mut page,
+                program,
+                tables,
+                *rule,
+                name.as_str(),
+                *line,
+            )?;
         }
     }
     page.whole()
