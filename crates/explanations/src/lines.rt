@@ -43,8 +43,8 @@ fn wrong_with(words: &[u8]) -> &'static str {
     "Write `define` alone on a line, then procedures on lines of their own, and then `end`."
 }
 
-// The first word of a line.
-fn first_word(words: &[u8]) -> &[u8] {
+/// The first word of a line.
+pub(crate) fn first_word(words: &[u8]) -> &[u8] {
     for word in words.split(|byte| is_blank(*byte)) {
         if !word.is_empty() {
             return word;

@@ -1,5 +1,6 @@
 //! What is wrong with a tables' text.
 
+use crate::lines::first_word;
 use crate::programs::{has_byte, line_at, push_shown_at};
 use crate::rules::push_line;
 use std::alloc::{AllocError, Global};
@@ -29,7 +30,12 @@ pub fn push_bad_toml(alloc: Global, text: &mut Page, tables: &str) {
         );
     }
     push_line(text, error.message());
-    if is_of_commas(line_at(bytes, 1)) {
+    if is_of_program(bytes) {
+        push_line(
+            text,
+            "This is a program: PROGRAM comes first, and TABLES, the file of the tables, behind it.",
+        );
+    } else if is_of_commas(line_at(bytes, 1)) {
         push_line(
             text,
             "It looks like a CSV file: `tools/tables_from_csv FILE.csv > tables.toml` makes tables of one.",
@@ -59,6 +65,22 @@ fn place_in_line(bytes: &[u8], place: usize) -> usize {
         };
     }
     before
+}
+
+// Whether the first word of a text, comments aside, is one with which a program begins.
+fn is_of_program(text: &[u8]) -> bool {
+    for line in text.split(|byte| *byte == b'\n') {
+        let word = first_word(line);
+        match word.first() {
+            None | Some(b'#') => {}
+            Some(_) => return is_declaration(word),
+        }
+    }
+    false
+}
+
+fn is_declaration(word: &[u8]) -> bool {
+    word == b"reducer".as_slice() || word == b"memo".as_slice() || word == b"proc".as_slice()
 }
 
 // Whether a line is of words with marks between them, as the first of a CSV file is, and could be none of a file of tables.
