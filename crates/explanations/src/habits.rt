@@ -1,5 +1,6 @@
 //! What is written otherwise here than in most languages, where a text is refused for it.
 
+use crate::hints::hint_at;
 use crate::marks::name_before;
 use crate::rules::push_line;
 use std::alloc::{AllocError, Global};
@@ -24,6 +25,9 @@ pub(crate) fn push_habit(text: &mut Page, tokens: &[Placed], at: usize, line: &[
     let Some(refused) = tokens.get(at) else {
         return;
     };
+    if let Some(hint) = hint_at(tokens, at) {
+        return push_line(text, hint);
+    }
     let before = name_before(tokens, at);
     match refused.token {
         Token::Name("and") => push_line(text, NO_AND),

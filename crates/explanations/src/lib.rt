@@ -11,6 +11,7 @@ mod expressions;
 pub mod faults;
 mod followers;
 mod habits;
+mod hints;
 mod known;
 mod limits;
 pub mod lines;
