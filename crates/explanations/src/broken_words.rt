@@ -4,6 +4,7 @@ use crate::broken::{Broken, Place, reducer_called};
 use crate::edits::{push_listed, push_rest, push_unknown_table};
 use input_tables::Tables;
 use meaning::tree::{Declaration, Program};
+use monoid_laws::Kind;
 use text_page::Page;
 
 /// Puts which name breaks a rule, and what there is in its place, at the end of the text.
@@ -45,13 +46,28 @@ fn push_no_column(text: &mut Page, table: &str, column: &str, tables: &Tables) {
     push_rest(text, columns.len())
 }
 
-// Puts that a name isn't known; of a reducer's how its value is got.
+// Puts that a name isn't known; of a reducer's how its value is got, if it can be read.
 fn push_unknown_name(text: &mut Page, program: &Program, name: &str) {
-    if reducer_called(program, name).is_some() {
-        text.put_named("  `", name, "` is a reducer: `x = read ");
-        return text.put_named("", name, ";` gives its value to a name.\n");
+    match reducer_called(program, name) {
+        None => text.put_named("  `", name, "` isn't known there.\n"),
+        Some(reducer) if is_read(&reducer.kind) => {
+            text.put_named("  `", name, "` is a reducer: at the end of `main` ");
+            text.put_named("`x = read ", name, ";` gives its value to a name.\n")
+        }
+        Some(_) => text.put_named(
+            "  `",
+            name,
+            "` is a reducer of a kind that isn't read, but printed.\n",
+        ),
     }
-    text.put_named("  `", name, "` isn't known there.\n")
+}
+
+// Whether a program can read reducers of that kind.
+fn is_read(kind: &Kind) -> bool {
+    !matches!(
+        kind,
+        Kind::List | Kind::First(_) | Kind::Last(_) | Kind::Argmax | Kind::Affine | Kind::Hist
+    )
 }
 
 // Puts how many are taken, and how many are given.
