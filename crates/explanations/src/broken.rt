@@ -44,6 +44,9 @@ impl<'a> Broken<'a> {
     }
 }
 
+// At how many statements of the line it is looked for at most: each look goes through the procedure once, and a line may have thousands.
+const MOST_LOOKS: u32 = 64;
+
 /// A program and its tables, and the rule that is broken at a line of it.
 #[derive(Clone, Copy)]
 pub(crate) struct Place<'a> {
@@ -53,7 +56,8 @@ pub(crate) struct Place<'a> {
     pub line: u32,
 }
 
-/// What breaks the rule, in the procedure or reducer of that name; nothing where that isn't found. Want of memory is the only error.
+/// What breaks the rule, in the procedure or reducer of that name; nothing where that isn't found among the first statements of the line.
+/// Want of memory is the only error.
 pub(crate) fn broken_by<'a>(
     alloc: Global,
     place: Place<'a>,
@@ -62,10 +66,11 @@ pub(crate) fn broken_by<'a>(
     if let Some(broken) = declared_twice(place, holder) {
         return Ok(Some(broken));
     }
+    let mut looks = MOST_LOOKS;
     for declaration in &place.program.declarations {
         if let Declaration::Procedure(procedure) = declaration {
             if procedure.name.as_str() == holder {
-                let found = broken_in(alloc, place, procedure)?;
+                let found = broken_in(alloc, place, procedure, &mut looks)?;
                 if found.is_some() {
                     return Ok(found);
                 }
@@ -98,18 +103,20 @@ fn declared_twice<'a>(place: Place<'a>, holder: &str) -> Option<Broken<'a>> {
     None
 }
 
-// What breaks the rule in a procedure.
+// What breaks the rule in a procedure, by so many looks at most.
 fn broken_in<'a>(
     alloc: Global,
     place: Place<'a>,
     procedure: &'a Procedure,
+    looks: &mut u32,
 ) -> Result<Option<Broken<'a>>, AllocError> {
     if let Some(broken) = parameter_twice(place, procedure) {
         return Ok(Some(broken));
     }
     for (block, inside) in procedure.blocks.iter().enumerate() {
         for statement in &inside.statements {
-            if statement.line == place.line {
+            if statement.line == place.line && *looks > 0 {
+                *looks -= 1;
                 let found = broken_at(alloc, place, procedure, block, statement)?;
                 if found.is_some() {
                     return Ok(found);
